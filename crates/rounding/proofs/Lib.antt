@@ -1,0 +1,10 @@
+-- The laws that belong to no one function.
+pub mod Halves
+pub mod Pattern
+pub mod RootLaw
+pub mod RootScaled
+pub mod Fields
+pub mod Cut
+pub mod Sign
+pub mod Pack
+pub mod Narrowing

@@ -1,0 +1,128 @@
+-- `rounding::narrow::narrow_bits` meets its contract: the law of each way out is `proofs/Pack.antt`'s. Assumes nothing.
+use mathlib.Core.Path.{_≡_, refl, sym, ap, _∙_, subst}
+use mathlib.Core.Bool.{Bool, cond}
+use Prim.Native.Nat.{ℕ, suc, _+_, _-_, _*_, _/_, _%_, _^_, _≤_, _<_, min}
+use native.Mathlib.Nat.{le-trans, lt-of-lt-of-le, min-eq-left, min-eq-right, div-lt-iff-lt-mul, mul-le-mul-left, zero-add}
+use native.Mathlib.Omega.{arith}
+use lib.Pow.{pow-pos, pow-mono, pow-add}
+use lib.Ieee.{binary32, binary64, low, prec, hid, top, ones, toBits, round}
+use lib.Ieee.Nearest.{closest}
+use Rattle.rounding.specs.Steps.{Narrows, sizeOf}
+use Rattle.rounding.proofs.Pack.{packs-high, packs-low, closest-le, closest-none}
+use borrow.Author.Needs.{needs}
+use Rattle.rounding.proofs.width.narrow_bits.Statement.{statement}
+use Rattle.rounding.proofs.width.narrow_bits.Tie as tie
+use Rattle.rounding.proofs.width.narrow_bits.Reads as reads
+use Rattle.rounding.proofs.width.narrow_bits.Lts as lts
+use Rattle.rounding.proofs.width.before.Reads as before-reads
+use Rattle.rounding.proofs.width.nearest_even.Reads as nearest-even-reads
+
+abbrev shift : ℕ → ℕ
+shift b = b / 2 ^ 52 - 1
+
+abbrev digits : ℕ → ℕ
+digits b = b - shift b * 2 ^ 52
+
+short : (b : ℕ) → digits b < 2 ^ 53
+short b = omega arith
+
+lead : (b : ℕ) → 896 ≤ shift b → 2 ^ 52 ≤ digits b
+lead b h = omega arith
+
+kept-le : (q s : ℕ) → 29 ≤ s → q < 2 ^ 53 → closest q (2 ^ s) ≤ 2 ^ 24
+kept-le q s h l =
+    let a : 2 ^ 29 ≤ 2 ^ s = pow-mono h in
+    le-trans (closest-le q (2 ^ s)) (div-lt-iff-lt-mul (pow-pos s) .1 (omega arith))
+
+high : (s : Bool) (b : ℕ) → 896 ≤ shift b → toBits binary32 (round binary32 s (sizeOf 53 b) (2 ^ low binary64)) ≡ cond s (top binary32) 0 + min ((shift b - 896) * 2 ^ 23 + closest (digits b) (2 ^ 29)) (ones binary32 * hid binary32)
+high s b h =
+    let e : shift b + 29 - 925 ≡ shift b - 896 = omega arith in
+    packs-high binary32 s (digits b) (shift b) 925 29 (short b) (lead b h) (omega arith)
+    ∙ ap (λ (x : ℕ). cond s (top binary32) 0 + min (x * 2 ^ 23 + closest (digits b) (2 ^ 29)) (ones binary32 * hid binary32)) e
+
+small : (s : Bool) (b : ℕ) → shift b < 896 → toBits binary32 (round binary32 s (sizeOf 53 b) (2 ^ low binary64)) ≡ cond s (top binary32) 0 + closest (digits b) (2 ^ (925 - shift b))
+small s b h =
+    let m = kept-le (digits b) (925 - shift b) (omega arith) (short b) in
+    packs-low binary32 s (digits b) (shift b) 925 29 (short b) (omega arith)
+    ∙ ap (λ (x : ℕ). cond s (top binary32) 0 + x) (omega arith)
+
+before-requires : tie.Need-before-requires
+before-requires c κs = search needs
+
+mul-q : tie.Need-mul-q
+mul-q c = search needs
+
+sub-q : tie.Need-sub-q
+sub-q c = search needs
+
+mul-t : tie.Need-mul-t
+mul-t c = search needs
+
+nearest-even-requires : tie.Need-nearest-even-requires
+nearest-even-requires c κs = search needs
+
+kept : (c : tie.After-nearest-even) → c .nearest-even .result ≡ closest (digits (c .before .before .before .args .b)) (2 ^ 29)
+kept c = c .nearest-even .ensures ∙ ap (λ (x : ℕ). closest (c .before .before .before .args .b - x * 2 ^ 52) (2 ^ 29)) (c .before .before .before2 .ensures)
+
+add-t : tie.Need-add-t
+add-t c =
+    let m = kept-le (digits (c .before .before .before .args .b)) 29 (omega arith) (short (c .before .before .before .args .b)) in
+    omega (arith, kept c, c .before .before .before2 .ensures, c .before .before .before .fits .b, m, c .before .before .before .pre)
+
+returns : tie.Need-returns
+returns c = λ s.
+    let b = c .before .before .before .before .args .b in
+    let h = c .before .before .before .before2 .ensures in
+    let r = kept (c .before) in
+    let g : 896 ≤ shift b = omega (arith, c .before .before .if1 .taken) in
+    record { value = high s b g ∙ ap (λ (x : ℕ). cond s (top binary32) 0 + x) (omega (arith, c .if2 .taken)); most = omega arith }
+
+returns-2 : tie.Need-returns-2
+returns-2 c = λ s.
+    let b = c .before .before .before .before .args .b in
+    let h = c .before .before .before .before2 .ensures in
+    let r = kept (c .before) in
+    let g : 896 ≤ shift b = omega (arith, c .before .before .if1 .taken) in
+    record { value = high s b g ∙ ap (λ (x : ℕ). cond s (top binary32) 0 + x) (omega (arith, c .if2 .left)); most = omega (arith, c .if2 .left) }
+
+sub-nearest-even : tie.Need-sub-nearest-even
+sub-nearest-even c = search needs
+
+nearest-even-requires-2 : tie.Need-nearest-even-requires-2
+nearest-even-requires-2 c κs = search needs
+
+returns-3 : tie.Need-returns-3
+returns-3 c = λ s.
+    let b = c .before .before .before .before .args .b in
+    let h = c .before .before .before .before2 .ensures in
+    let g : shift b < 896 = omega (arith, c .before .before .if1 .left) in
+    let r : c .nearest-even2 .result ≡ closest (digits b) (2 ^ (925 - shift b)) = c .nearest-even2 .ensures ∙ ap (λ (x : ℕ). closest (b - x * 2 ^ 52) (2 ^ (925 - x))) h in
+    let m = kept-le (digits b) (925 - shift b) (omega arith) (short b) in
+    record { value = small s b g ∙ ap (λ (x : ℕ). cond s (top binary32) 0 + x) (sym r); most = omega arith }
+
+returns-4 : tie.Need-returns-4
+returns-4 c = λ s.
+    let b = c .before .before .before .args .b in
+    let h = c .before .before .before2 .ensures in
+    let g : shift b < 862 = omega (arith, c .if3 .left) in
+    let k : 54 ≤ 925 - shift b = omega arith in
+    let p : 2 ^ 54 ≤ 2 ^ (925 - shift b) = pow-mono k in
+    let z = short b in
+    record { value = small s b (omega arith) ∙ ap (λ (x : ℕ). cond s (top binary32) 0 + x) (closest-none (digits b) (2 ^ (925 - shift b)) (omega arith)); most = omega arith }
+
+pub narrow-bits-spec : {M : Type 1} → statement M
+narrow-bits-spec =
+    tie.close
+    (tie.spec
+    before-requires
+    mul-q
+    sub-q
+    mul-t
+    nearest-even-requires
+    add-t
+    returns
+    returns-2
+    sub-nearest-even
+    nearest-even-requires-2
+    returns-3
+    returns-4)

@@ -1,0 +1,14 @@
+-- Laws about the definitions, for the crates above to cite.
+pub mod Isqrt
+pub mod Nearest
+pub mod RootNearest
+pub mod RootOrder
+pub mod RootTest
+pub mod Signed
+pub mod Order
+pub mod Rounding
+pub mod Sums
+pub mod Quotients
+pub mod Floor
+pub mod Column
+pub mod Extremes
