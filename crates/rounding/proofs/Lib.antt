@@ -8,3 +8,4 @@ pub mod Cut
 pub mod Sign
 pub mod Pack
 pub mod Narrowing
+pub mod Length

@@ -12,3 +12,5 @@ pub mod Quotients
 pub mod Floor
 pub mod Column
 pub mod Extremes
+pub mod Width
+pub mod Thresholds

@@ -17,6 +17,8 @@ use lib.Ieee.Order.{le-of-values}
 use Rattle.rounding.specs.Root.{sqrtOf}
 use Rattle.rounding.specs.Laws.RootNearest.{Held, held}
 use Rattle.rounding.specs.Laws.Order.{IsNum, Le, le→Le, Le→le, le-trans, le-or-lt, lt→not-le, not-le→lt, lt-of-le-of-lt, lt-of-lt-of-le, nan-lt, nan-le, le-nan, lt-nan, T-of, not-T-of}
+use Rattle.rounding.specs.Width.{narrowOf}
+use Rattle.rounding.specs.Laws.Width.{narrow-mono, narrow-num, narrow-nan}
 use Rattle.rounding.specs.Laws.RootOrder.{nought, sqrt-mono, root-number}
 
 -- ---- a test on floats that holds at a larger number where it holds at a smaller, and at no nan
@@ -129,13 +131,28 @@ module _ (f : Format) (u : Float → Bool) (r : Rising u) (c p : Float) (g : Edg
       go false true z k = absurd (no z (le-trans nought c x above-nought (yes k)))
       go false false z k = ap u (no-root f x (no z)) ∙ r .none
 
--- ---- the four tests of a root against t
+-- ---- what may stand between the root and the constant: nothing, or a narrower format
 
-pub at-least : (t : Float) → Rising (λ v. le t v)
-at-least t = record { rises = λ v w h k. le-trans t v w k h; none = le-nan t }
+-- n keeps the order, and takes numbers to numbers and a nan to a nan
+pub record Keeps (n : Float → Float) : Type 0 where
+  pub order : (v w : Float) → T (le v w) → T (le (n v) (n w))
+  pub number : (v : Float) → IsNum v → IsNum (n v)
+  pub nan-of : n nan ≡ nan
 
-pub above : (t : Float) → Rising (λ v. lt t v)
-above t = record { rises = λ v w h k. lt-of-lt-of-le t v w k h; none = lt-nan t }
+pub as-it-is : Keeps (λ v. v)
+as-it-is = record { order = λ v w h. h; number = λ v h. h; nan-of = refl }
+
+pub narrowed : (f : Format) → Keeps (narrowOf f)
+narrowed f = record { order = narrow-mono f; number = narrow-num f; nan-of = narrow-nan f }
+
+-- ---- the tests of a root against t
+
+module _ (n : Float → Float) (k : Keeps n) (t : Float) where
+  pub at-least : Rising (λ v. le t (n v))
+  at-least = record { rises = λ v w h g. le-trans t (n v) (n w) g (k .order v w h); none = ap (λ (v : Float). le t v) (k .nan-of) ∙ le-nan t }
+
+  pub above : Rising (λ v. lt t (n v))
+  above = record { rises = λ v w h g. lt-of-lt-of-le t (n v) (n w) g (k .order v w h); none = ap (λ (v : Float). lt t v) (k .nan-of) ∙ lt-nan t }
 
 -- the other two hold where these fail, at a number that has a root
 same : (a b : Bool) → (T a → T b) → (T b → T a) → a ≡ b
@@ -150,20 +167,20 @@ lt-not x y p q = same (lt x y) (not (le y x)) (λ h. not-T (le y x) (lt→not-le
 le-not : (x y : Float) → IsNum x → IsNum y → le x y ≡ not (lt y x)
 le-not x y p q = same (le x y) (not (lt y x)) (λ h. not-T (lt y x) (λ k. lt→not-le y x k h)) (λ h. elim (le-or-lt x y p q) [ inl k ↦ k | inr k ↦ absurd (T-not (lt y x) h k) ])
 
-module _ (f : Format) (t c p : Float) (n : IsNum t) (x : Float) (i : T (fits f x)) where
-  pub root-below : Edge f (λ v. le t v) c p → lt (sqrtOf f x) t ≡ le nought x && not (le c x)
+module _ (f : Format) (n : Float → Float) (k : Keeps n) (t c p : Float) (N : IsNum t) (x : Float) (i : T (fits f x)) where
+  pub root-below : Edge f (λ v. le t (n v)) c p → lt (n (sqrtOf f x)) t ≡ le nought x && not (le c x)
   root-below g = go (le nought x) refl
     where
-      go : (a : Bool) → le nought x ≡ a → lt (sqrtOf f x) t ≡ a && not (le c x)
-      go true z = lt-not (sqrtOf f x) t (root-number f x (T-of z)) n ∙ ap not (edge f (λ v. le t v) (at-least t) c p g x i)
-      go false z = ap (λ (v : Float). lt v t) (no-root f x (not-T-of z)) ∙ nan-lt t
+      go : (a : Bool) → le nought x ≡ a → lt (n (sqrtOf f x)) t ≡ a && not (le c x)
+      go true z = lt-not (n (sqrtOf f x)) t (k .number (sqrtOf f x) (root-number f x (T-of z))) N ∙ ap not (edge f (λ v. le t (n v)) (at-least n k t) c p g x i)
+      go false z = ap (λ (v : Float). lt (n v) t) (no-root f x (not-T-of z)) ∙ ap (λ (v : Float). lt v t) (k .nan-of) ∙ nan-lt t
 
-  pub root-at-most : Edge f (λ v. lt t v) c p → le (sqrtOf f x) t ≡ le nought x && not (le c x)
+  pub root-at-most : Edge f (λ v. lt t (n v)) c p → le (n (sqrtOf f x)) t ≡ le nought x && not (le c x)
   root-at-most g = go (le nought x) refl
     where
-      go : (a : Bool) → le nought x ≡ a → le (sqrtOf f x) t ≡ a && not (le c x)
-      go true z = le-not (sqrtOf f x) t (root-number f x (T-of z)) n ∙ ap not (edge f (λ v. lt t v) (above t) c p g x i)
-      go false z = ap (λ (v : Float). le v t) (no-root f x (not-T-of z)) ∙ nan-le t
+      go : (a : Bool) → le nought x ≡ a → le (n (sqrtOf f x)) t ≡ a && not (le c x)
+      go true z = le-not (n (sqrtOf f x)) t (k .number (sqrtOf f x) (root-number f x (T-of z))) N ∙ ap not (edge f (λ v. lt t (n v)) (above n k t) c p g x i)
+      go false z = ap (λ (v : Float). le (n v) t) (no-root f x (not-T-of z)) ∙ ap (λ (v : Float). le v t) (k .nan-of) ∙ nan-le t
 
 -- as a program asks: first whether c is reached
 pub reached : {v b : Bool} (a : Bool) → v ≡ a && not b → b ≡ true → false ≡ v
