@@ -2,3 +2,4 @@
 pub mod Single
 pub mod Coords
 pub mod Geometry
+pub mod Laws
