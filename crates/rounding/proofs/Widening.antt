@@ -105,7 +105,7 @@ pub record Moved (b z : ℕ) : Type 0 where
   pub lead : 2 ^ 52 ≤ b * 2 ^ z
   pub room : b * 2 ^ z < 2 ^ 53
 
-pub moved : (b : ℕ) → 0 < b → b < 2 ^ 23 → (11 ≤ leadingZeros 64 b) × Moved b (leadingZeros 64 b - 11)
+pub moved : (b : ℕ) → 0 < b → b < 2 ^ 23 → Moved b (leadingZeros 64 b - 11)
 moved b p l =
     let t = leading-top 64 b p (omega arith) in
     let j = t .0 in
@@ -113,15 +113,13 @@ moved b p l =
     let k : j < 23 = lt-of-not-le (λ (g : 23 ≤ j). not-le-of-lt (lt-of-le-of-lt (t .2) l) (pow-mono g)) in
     let z = leadingZeros 64 b - 11 in
     let i : j + z ≡ 52 = omega arith in
-    let i2 : suc j + z ≡ 53 = omega arith in (
-      omega arith,
-      record {
-        some = omega arith;
-        few = omega arith;
-        lead = le-trans (le-of-eq (ap (λ (y : ℕ). 2 ^ y) (sym i) ∙ pow-add 2 j z)) (mul-le-mul-right (2 ^ z) (t .2));
-        room = lt-of-lt-of-le (mul-lt-mul-of-pos-right (t .3) (pow-pos z)) (le-of-eq (sym (pow-add 2 (suc j) z) ∙ ap (λ (y : ℕ). 2 ^ y) i2));
-      },
-    )
+    let i2 : suc j + z ≡ 53 = omega arith in
+    record {
+      some = omega arith;
+      few = omega arith;
+      lead = le-trans (le-of-eq (ap (λ (y : ℕ). 2 ^ y) (sym i) ∙ pow-add 2 j z)) (mul-le-mul-right (2 ^ z) (t .2));
+      room = lt-of-lt-of-le (mul-lt-mul-of-pos-right (t .3) (pow-pos z)) (le-of-eq (sym (pow-add 2 (suc j) z) ∙ ap (λ (y : ℕ). 2 ^ y) i2));
+    }
 
 pub small : (b z : ℕ) → b < 2 ^ 23 → Moved b z → Widens b ((925 - z) * 2 ^ 52 + b * 2 ^ z)
 small b z l m =

@@ -17,7 +17,7 @@ below : (c : tie.Else2) → c .before .before .args .b < 2 ^ 23
 below c = omega (arith, c .before .if1 .left)
 
 up : (c : tie.Else2) → Moved (c .before .before .args .b) (places (c .before .before .args .b))
-up c = let n = c .if2 .left in let z : 0 < c .before .before .args .b = omega arith in moved (c .before .before .args .b) z (below c) .1
+up c = let n = c .if2 .left in let z : 0 < c .before .before .args .b = omega arith in moved (c .before .before .args .b) z (below c)
 
 add-result : tie.Need-add-result
 add-result c = search needs
