@@ -1,10 +1,11 @@
 -- The smaller and the larger of two floats, a float between two bounds, its size, and whether it is finite: what each branch of the code gives. Assumes nothing.
 use mathlib.Core.Path.{_≡_, refl, sym, ap, ap₂, _∙_, subst}
-use Prim.Native.Nat.{ℕ, zero, suc, _+_, _-_, _*_, _/_, _%_, _≤_, _<_}
+use Prim.Native.Nat.{ℕ, zero, suc, _+_, _-_, _*_, _/_, _%_, _<_}
 use native.Mathlib.Nat.{le-trans, le-of-eq, mod-lt, mod-eq-of-lt, mul-pos, zero-lt-suc}
 use mathlib.Core.Bool.{Bool, true, false, not, cond}
 use lib.Dec.{T, leb, ltb, eqb, nltb→le}
 use lib.Arith.{lt→nleb}
+use lib.Bits.{bitAnd}
 use lib.Pow.{pow-pos}
 use lib.Ieee.{Float, nan, inf, fin, Format, prec, low, odd, hid, ones, top, ofFields, ofBits, toBits, fits, isNan, nanBits, lt, le, ne}
 use lib.Ieee.Bits.{is-false, ofBits-toBits, nanBits-is, nanBits-above}
@@ -12,7 +13,7 @@ use lib.Ieee.Scale.{finite}
 use Rattle.rounding.specs.Extremes.{first, ge, minOf, maxOf, clampOf, absOf}
 use Rattle.rounding.specs.Laws.Order.{IsNum, not-nan-num, le-num-left, le-num-right, T-of, not-T-of, num-of-same, nan-of-differs}
 use Rattle.rounding.proofs.Fields.{ofBits-is, low-part, no-nan}
-use Rattle.rounding.proofs.Words.{plain-word}
+use Rattle.rounding.proofs.Words.{plain-word, masked}
 
 -- ---- the one of two that comes first
 
@@ -105,19 +106,21 @@ top-pos : (f : Format) → 0 < top f
 top-pos f = mul-pos (pow-pos (prec f - 1)) (zero-lt-suc (ones f))
 
 -- the pattern without its sign
-pub unsigned-word : (f : Format) (x : Float) → T (fits f x) → ofBits f (toBits f x % top f) ≡ absOf x
+pub unsigned-word : (f : Format) (x : Float) → T (fits f x) → ofBits f (bitAnd (toBits f x) (top f - 1)) ≡ absOf x
 unsigned-word f x t =
     let b = toBits f x in
     let l : b % top f < top f = mod-lt b (top-pos f) in
     let i : b % top f % top f ≡ b % top f = mod-eq-of-lt l in
-    ofBits-is f (b % top f)
+    ap (ofBits f) (masked f x)
+    ∙ ofBits-is f (b % top f)
     ∙ ap (λ (s : Bool). ofFields f s (b % top f % top f / hid f) (b % top f % hid f)) (is-false (leb (top f) (b % top f)) (lt→nleb (top f) (b % top f) l))
     ∙ ap₂ (λ (y z : ℕ). ofFields f false (y / hid f) z) i (low-part f b)
     ∙ fields-size f (leb (top f) b) (b % top f / hid f) (b % hid f)
     ∙ ap absOf (sym (ofBits-is f b) ∙ ofBits-toBits f x t)
 
-pub unsigned-plain : (f : Format) (x : Float) → T (fits f x) → ne x x ≡ false → T (not (nanBits f (toBits f x % top f)))
+pub unsigned-plain : (f : Format) (x : Float) → T (fits f x) → ne x x ≡ false → T (not (nanBits f (bitAnd (toBits f x) (top f - 1))))
 unsigned-plain f x t e =
     let b = toBits f x in
     let m : T (not (ltb (ones f * hid f) (b % top f))) = subst (λ (y : Bool). T (not y)) (ap isNan (sym (ofBits-toBits f x t)) ∙ sym (nanBits-is f b) ∙ nanBits-above f b) (no-nan x e) in
-    plain-word f (b % top f) (le-trans (le-of-eq (mod-eq-of-lt (mod-lt b (top-pos f)))) (nltb→le (ones f * hid f) (b % top f) m))
+    subst (λ (y : ℕ). T (not (nanBits f y))) (sym (masked f x))
+    (plain-word f (b % top f) (le-trans (le-of-eq (mod-eq-of-lt (mod-lt b (top-pos f)))) (nltb→le (ones f * hid f) (b % top f) m)))

@@ -1,7 +1,7 @@
 -- A single to the double that equals it, by the bits: what each way out of the code gives. Assumes nothing.
 use mathlib.Core.Path.{_≡_, refl, sym, ap, ap₂, _∙_, subst}
 use mathlib.Core.Logic.{_⊎_, inl, inr}
-use Prim.Native.Nat.{ℕ, zero, suc, _+_, _-_, _*_, _/_, _%_, _^_, _≤_, _<_}
+use Prim.Native.Nat.{ℕ, suc, _+_, _-_, _*_, _/_, _^_, _≤_, _<_}
 use native.Mathlib.Nat.{le-trans, le-of-eq, le-of-lt, lt-of-lt-of-le, lt-of-le-of-lt, lt-of-not-le, not-le-of-lt, zero-add, mul-assoc, mul-right-comm, mul-le-mul-right, mul-lt-mul-of-pos-right, eq-of-mul-eq-mul-right, div-add-mod'}
 use native.Mathlib.Omega.{arith}
 use mathlib.Core.Bool.{Bool, true, false, not, cond}
@@ -9,13 +9,13 @@ use lib.Dec.{T, leb, leb→le, nleb→lt, lit<}
 use lib.Count.{leadingZeros, leading-top}
 use lib.Arith.{digits-div}
 use lib.Pow.{pow-add, pow-pos, pow-mono}
-use lib.Ieee.{Float, nan, inf, fin, Format, binary32, binary64, up, down, prec, low, odd, hid, ones, top, ofBits, toBits, fits, ne}
+use lib.Ieee.{Float, nan, inf, fin, Format, binary32, binary64, up, down, prec, low, hid, ones, top, ofBits, toBits, fits}
 use lib.Ieee.Exact.{HasValue, odd-sign}
 use lib.Ieee.Bits.{ofBits-toBits}
 use lib.Ieee.Fits.{fits-widens, two}
 use Rattle.rounding.specs.Steps.{Widens, sizeOf}
 use Rattle.rounding.proofs.Pattern.{twice, bits-of}
-use Rattle.rounding.proofs.Cut.{expo, digs, Parts, parts}
+use Rattle.rounding.proofs.Cut.{expo, digs, parts}
 use Rattle.rounding.proofs.Sign.{sized, finite-odd}
 
 -- ---- the number that a pattern stands for
@@ -24,9 +24,11 @@ use Rattle.rounding.proofs.Sign.{sized, finite-odd}
 same-value : (x : Float) (s : Bool) (a c b d : ℕ) → 0 < c → a * d ≡ b * c → HasValue x s a c → HasValue x s b d
 same-value nan s a c b d C e v = v
 same-value (inf t) s a c b d C e v = v
-same-value (fin t m k) s a c b d C e v =
-    (v .0, eq-of-mul-eq-mul-right c C (m * up k * d) (b * down k)
-    (mul-right-comm (m * up k) d c ∙ ap (λ (y : ℕ). y * d) (v .1) ∙ mul-right-comm a (down k) d ∙ ap (λ (y : ℕ). y * down k) e ∙ mul-right-comm b c (down k)))
+same-value (fin t m k) s a c b d C e v = (
+  v .0,
+  eq-of-mul-eq-mul-right c C (m * up k * d) (b * down k)
+      (mul-right-comm (m * up k) d c ∙ ap (λ (y : ℕ). y * d) (v .1) ∙ mul-right-comm a (down k) d ∙ ap (λ (y : ℕ). y * down k) e ∙ mul-right-comm b c (down k)),
+)
 
 -- h * hid + q are the bits of q * 2 ^ h of the smallest values
 size-of : (f : Format) (h q : ℕ) → (h ≡ 0) ⊎ (hid f ≤ q) → q < 2 ^ prec f → sizeOf (prec f) (h * hid f + q) ≡ q * 2 ^ h
@@ -103,7 +105,7 @@ pub record Moved (b z : ℕ) : Type 0 where
   pub lead : 2 ^ 52 ≤ b * 2 ^ z
   pub room : b * 2 ^ z < 2 ^ 53
 
-pub moved : (b : ℕ) → 0 < b → b < 2 ^ 23 → (11 ≤ leadingZeros 64 b) × Moved b (leadingZeros 64 b - 11)
+pub moved : (b : ℕ) → 0 < b → b < 2 ^ 23 → Moved b (leadingZeros 64 b - 11)
 moved b p l =
     let t = leading-top 64 b p (omega arith) in
     let j = t .0 in
@@ -112,12 +114,12 @@ moved b p l =
     let z = leadingZeros 64 b - 11 in
     let i : j + z ≡ 52 = omega arith in
     let i2 : suc j + z ≡ 53 = omega arith in
-    (omega arith, record {
+    record {
       some = omega arith;
       few = omega arith;
       lead = le-trans (le-of-eq (ap (λ (y : ℕ). 2 ^ y) (sym i) ∙ pow-add 2 j z)) (mul-le-mul-right (2 ^ z) (t .2));
       room = lt-of-lt-of-le (mul-lt-mul-of-pos-right (t .3) (pow-pos z)) (le-of-eq (sym (pow-add 2 (suc j) z) ∙ ap (λ (y : ℕ). 2 ^ y) i2));
-    })
+    }
 
 pub small : (b z : ℕ) → b < 2 ^ 23 → Moved b z → Widens b ((925 - z) * 2 ^ 52 + b * 2 ^ z)
 small b z l m =

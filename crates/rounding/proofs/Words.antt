@@ -1,11 +1,12 @@
 -- Words and the floats that they stand for, with the format as a parameter. Assumes nothing.
-use mathlib.Core.Path.{_≡_, refl, sym, ap, _∙_, subst}
-use Prim.Native.Nat.{ℕ, _+_, _*_, _/_, _%_, _≤_, _<_}
-use mathlib.Core.Bool.{Bool, true, false, not, cond}
+use mathlib.Core.Path.{_≡_, refl, sym, _∙_, subst}
+use Prim.Native.Nat.{ℕ, _+_, _-_, _*_, _/_, _%_, _≤_, _<_}
+use mathlib.Core.Bool.{Bool, true, false, not}
 use lib.IntN.{pos}
-use lib.Dec.{T, ltb, lt→ltb}
+use lib.Dec.{T, lt→ltb}
 use lib.Arith.{le→nltb}
-use lib.Ieee.{Float, nan, inf, fin, Format, binary32, hid, ones, top, ofBits, toBits, isNan, nanBits, eq, ne}
+use lib.Bits.{bitAnd, and-mask}
+use lib.Ieee.{Float, nan, inf, fin, Format, binary32, binary64, hid, ones, top, ofBits, toBits, isNan, nanBits, eq, ne}
 use lib.Ieee.Bits.{nanBits-is, nanBits-above}
 use lib.Ieee.Compare.{differs-from-itself}
 use Rattle.rounding.specs.Stored.{storedOf}
@@ -30,6 +31,11 @@ plain-word f b h = subst (λ (y : Bool). T (not y)) (sym (nanBits-above f b)) (l
 pub word-of-nan : (f : Format) (x : Float) → ne x x ≡ true → ones f * hid f + hid f / 2 ≡ toBits f x
 unfolding toBits
 word-of-nan f x e = subst (λ (y : Float). ones f * hid f + hid f / 2 ≡ toBits f y) (sym (differs-from-itself x (T-of e))) refl
+
+-- the mask of all bits but the sign leaves the pattern without it
+pub masked : (f : Format) (x : Float) → bitAnd (toBits f x) (top f - 1) ≡ toBits f x % top f
+masked binary32 x = and-mask (toBits binary32 x) 31
+masked binary64 x = and-mask (toBits binary64 x) 63
 
 -- ---- as the index stores a single
 

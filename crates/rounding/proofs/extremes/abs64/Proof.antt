@@ -1,12 +1,8 @@
 -- `rounding::extremes::abs64` meets its contract: the bits without the sign are those of the size. Assumes nothing.
-use mathlib.Core.Path.{_≡_, sym, subst}
-use mathlib.Core.Bool.{not}
-use Prim.Native.Nat.{_-_, _^_}
+use mathlib.Core.Path.{sym, subst}
 use lib.Dec.{T}
-use lib.Bits.{bitAnd, and-mask}
-use lib.Ieee.{Float, binary64, fits, toBits}
+use lib.Ieee.{binary64, fits}
 use Rattle.rounding.proofs.Fields.{no-nan}
-use Rattle.rounding.proofs.Sign.{sized}
 use Rattle.rounding.proofs.Choosing.{nan-size, unsigned-word, unsigned-plain}
 use Rattle.rounding.proofs.extremes.abs64.Statement.{statement}
 use Rattle.rounding.proofs.extremes.abs64.Tie as tie
@@ -15,9 +11,6 @@ use Rattle.rounding.proofs.extremes.abs64.Tie as tie
 held : (c : tie.Start) → T (fits binary64 (c .args .x))
 held c = subst T (sym (c .good .0 .1)) tt
 
-masked : (x : Float) → bitAnd (toBits binary64 x) (2 ^ 63 - 1) ≡ sized binary64 x
-masked x = and-mask (toBits binary64 x) 63
-
 returns : tie.Need-returns
 returns c = nan-size (c .before .args .x) (c .if1 .taken)
 
@@ -25,10 +18,10 @@ float-to-bits-result : tie.Need-float-to-bits-result
 float-to-bits-result c = no-nan (c .before .args .x) (c .if1 .left)
 
 float-from-bits-result : tie.Need-float-from-bits-result
-float-from-bits-result c = rw (masked (c .before .args .x)) (unsigned-plain binary64 (c .before .args .x) (held (c .before)) (c .if1 .left))
+float-from-bits-result c = unsigned-plain binary64 (c .before .args .x) (held (c .before)) (c .if1 .left)
 
 returns-2 : tie.Need-returns-2
-returns-2 c = rw (masked (c .before .args .x)) (unsigned-word binary64 (c .before .args .x) (held (c .before)))
+returns-2 c = unsigned-word binary64 (c .before .args .x) (held (c .before))
 
 pub abs64-spec : {M : Type 1} → statement M
 abs64-spec = tie.close (tie.spec returns float-to-bits-result float-from-bits-result returns-2)

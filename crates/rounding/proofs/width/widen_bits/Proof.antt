@@ -1,6 +1,6 @@
 -- `rounding::width::widen_bits` meets its contract: each way out is a law of `proofs/Widening.antt`. Assumes nothing.
 use borrow.Author.Needs.{needs}
-use mathlib.Core.Path.{_≡_, sym, ap, ap₂, _∙_, subst}
+use mathlib.Core.Path.{_≡_, sym, ap₂, subst}
 use Prim.Native.Nat.{ℕ, _+_, _-_, _*_, _%_, _^_, _<_}
 use native.Mathlib.Nat.{mod-eq-of-lt}
 use native.Mathlib.Omega.{arith}
@@ -17,7 +17,7 @@ below : (c : tie.Else2) → c .before .before .args .b < 2 ^ 23
 below c = omega (arith, c .before .if1 .left)
 
 up : (c : tie.Else2) → Moved (c .before .before .args .b) (places (c .before .before .args .b))
-up c = let n = c .if2 .left in let z : 0 < c .before .before .args .b = omega arith in moved (c .before .before .args .b) z (below c) .1
+up c = let n = c .if2 .left in let z : 0 < c .before .before .args .b = omega arith in moved (c .before .before .args .b) z (below c)
 
 add-result : tie.Need-add-result
 add-result c = search needs
