@@ -11,7 +11,8 @@ use lib.Dec.{T, T-not, not-T, leb, ltb, eqb, ltb→lt, lt→ltb, eqb→eq, nltb�
 use lib.Ieee.{Float, nan, inf, fin, up, down, below, level, lt, eq, le, ne, neg, isNan}
 use lib.Ieee.Compare.{differs-from-itself}
 use lib.Ieee.Fits.{up-pos, down-pos}
-use Rattle.rounding.specs.Laws.Signed.{pp, nn, Leq, Less, below→Less, Less→below, or-split, level→eq, eq→level, Leq→le, le→Leq, Cross, scaled, unscaled, cross-trans}
+use Rattle.rounding.specs.Laws.Basics.{or-l, or-r, or-split}
+use Rattle.rounding.specs.Laws.Signed.{pp, nn, Leq, Less, below→Less, Less→below, level→eq, eq→level, Leq→le, le→Leq, Cross, scaled, unscaled, cross-trans}
 
 -- a number: an infinity or a finite value
 abbrev pub IsNum : Float → Type 0
@@ -202,14 +203,6 @@ eq-nan (inf s) = refl
 eq-nan (fin s m e) = refl
 
 -- ---- the strict part
-or-l : (a b : Bool) → T a → T (a || b)
-or-l true b t = tt
-or-l false b t = absurd t
-
-or-r : (a b : Bool) → T b → T (a || b)
-or-r true b t = tt
-or-r false b t = t
-
 pub le-of-lt : (x y : Float) → T (lt x y) → T (le x y)
 unfolding le
 le-of-lt x y h = or-l (lt x y) (eq x y) h

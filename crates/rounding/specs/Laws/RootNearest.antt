@@ -20,6 +20,7 @@ use lib.Ieee.Digits.{size-le}
 use lib.Ieee.Nearest.{closest}
 use Rattle.rounding.specs.Laws.Isqrt.{isqrt-root, sq-lt}
 use Rattle.rounding.specs.Laws.Nearest.{NoNearer, round-nearest}
+use Rattle.rounding.specs.Laws.Held.{Held, held, bounded}
 
 -- v is no farther from the root of x than w is: the middle of the two, (v + w) / 2, is on w's side of the root or on it, so its square is on that side of x.
 -- Each of the three is num / den.
@@ -104,42 +105,6 @@ scaled-above S M D l nx dx n L e k h =
 pub four : (k : ℕ) → 4 ^ k ≡ 2 ^ k * 2 ^ k
 four zero = refl
 four (suc k) = let a = pow-succ' 4 k in let b = pow-succ' 2 k in let c = four k in rw (a, b, c) (omega arith)
-
--- ---- a number that the format holds, in units of its smallest value
-
-pow-le-back : (a l : ℕ) → 2 ^ a ≤ 2 ^ l → a ≤ l
-pow-le-back a l h = le-of-suc-le-suc (lt-of-not-le (λ (g : suc l ≤ a). lt-irrefl (2 ^ l) (lt-of-lt-of-le (pow-lt g) h)))
-
--- q * 2 ^ j of them, with few enough digits
-pub record Held (f : Format) (m : ℕ) (e : ℤ) : Type 0 where
-  pub q : ℕ
-  pub j : ℕ
-  pub short : q < 2 ^ prec f
-  pub value : m * up e * 2 ^ low f ≡ q * 2 ^ j * down e
-
-placed : (f : Format) (m : ℕ) (e : ℤ) → m < 2 ^ prec f → down e ≤ 2 ^ low f → Held f m e
-placed f m (pos a) h k = record { q = m; j = a + low f; short = h; value = mul-assoc m (2 ^ a) (2 ^ low f) ∙ ap (λ (x : ℕ). m * x) (sym (pow-add 2 a (low f))) ∙ sym (mul-one (m * 2 ^ (a + low f))) }
-placed f m (negsuc a) h k =
-    let l : suc a ≤ low f = pow-le-back (suc a) (low f) k in
-    let i : low f ≡ low f - suc a + suc a = omega arith in
-    record {
-      q = m;
-      j = low f - suc a;
-      short = h;
-      value = ap (λ (x : ℕ). x * 2 ^ low f) (mul-one m) ∙ ap (λ (x : ℕ). m * x) (ap (λ (x : ℕ). 2 ^ x) i ∙ pow-add 2 (low f - suc a) (suc a)) ∙ sym (mul-assoc m (2 ^ (low f - suc a)) (2 ^ suc a));
-    }
-
-pub held : (f : Format) (s : Bool) (m : ℕ) (e : ℤ) → T (fits f (fin s m e)) → Held f m e
-unfolding fits
-held f s zero e h = record { q = 0; j = 0; short = pow-pos (prec f); value = ap (λ (x : ℕ). x * 2 ^ low f) (zero-mul (up e)) ∙ zero-mul (2 ^ low f) ∙ sym (zero-mul (down e)) }
-held f s (suc m) e h =
-    let A = eqb (suc m % 2) 1 in
-    let B = ltb (suc m) (2 ^ prec f) in
-    let C = leb (down e) (2 ^ low f) in
-    let D = ltb (suc m * up e) (2 ^ suc (emax f) * down e) in
-    placed f (suc m) e
-    (ltb→lt (suc m) (2 ^ prec f) (and-r A B (and-l (A && B) C (and-l (A && B && C) D h))))
-    (leb→le (down e) (2 ^ low f) (and-r (A && B) C (and-l (A && B && C) D h)))
 
 -- ---- the theorem
 
@@ -244,14 +209,8 @@ root-finite f a d D h =
     let C : 0 < c = mul-pos (zero-lt-suc 1) (pow-pos (suc (low f))) in
     subst (λ (x : Float). T (finite x)) (sym (rootOf-is f a d)) (finite-of (round f false A c) false (grid f A c) l (round-val f A c (grid-le f A c C al)))
 
-bounded : (f : Format) (m : ℕ) (e : ℤ) → 0 < m → T (fits f (fin false m e)) → m * up e < 2 ^ suc (emax f) * down e
-unfolding fits
-bounded f zero e p h = absurd (lt-irrefl 0 p)
-bounded f (suc m) e p h =
-    ltb→lt (suc m * up e) (2 ^ suc (emax f) * down e) (and-r (eqb (suc m % 2) 1 && ltb (suc m) (2 ^ prec f) && leb (down e) (2 ^ low f)) (ltb (suc m * up e) (2 ^ suc (emax f) * down e)) h)
-
 pub sqrt-finite : (f : Format) (m : ℕ) (e : ℤ) → 0 < m → T (fits f (fin false m e)) → T (finite (sqrtOf f (fin false m e)))
-sqrt-finite f m e p h = subst (λ (v : Float). T (finite v)) (sym (sqrt-pos f m e p)) (root-finite f (m * up e) (down e) (down-pos e) (bounded f m e p h))
+sqrt-finite f m e p h = subst (λ (v : Float). T (finite v)) (sym (sqrt-pos f m e p)) (root-finite f (m * up e) (down e) (down-pos e) (bounded f false m e h))
 
 -- Of a number above zero: `n * 2 ^ k` stands for any number, zero included, that the format holds.
 pub sqrt-nearest : (f : Format) (m : ℕ) (e : ℤ) (n : ℕ) (k : ℤ) → 0 < m → T (fits f (fin false m e)) → T (fits f (fin false n k)) → NoFarther (fin false m e) (sqrtOf f (fin false m e)) (fin false n k)

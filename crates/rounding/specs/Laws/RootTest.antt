@@ -15,7 +15,7 @@ use lib.Ieee.Bits.{cond-no}
 use lib.Ieee.Exact.{HasValue}
 use lib.Ieee.Order.{le-of-values}
 use Rattle.rounding.specs.Root.{sqrtOf}
-use Rattle.rounding.specs.Laws.RootNearest.{Held, held}
+use Rattle.rounding.specs.Laws.Held.{Held, held}
 use Rattle.rounding.specs.Laws.Order.{IsNum, Le, le→Le, Le→le, le-trans, le-or-lt, lt→not-le, not-le→lt, lt-of-le-of-lt, lt-of-lt-of-le, nan-lt, nan-le, le-nan, lt-nan, T-of, not-T-of}
 use Rattle.rounding.specs.Laws.RootOrder.{nought, sqrt-mono, root-number}
 
