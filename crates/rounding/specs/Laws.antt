@@ -11,6 +11,7 @@ pub mod Order
 pub mod Rounding
 pub mod Sums
 pub mod Quotients
+pub mod Products
 pub mod Count
 pub mod Whole
 pub mod Column

@@ -3,7 +3,7 @@
 use mathlib.Core.Path.{_≡_, refl, sym, ap, subst}
 use mathlib.Core.Logic.{_⊎_, inl, inr, _↔_}
 use Prim.Native.Nat.{ℕ, zero, suc, _+_, _-_, _*_, _≤_, _<_}
-use native.Mathlib.Nat.{mul-right-comm}
+use native.Mathlib.Nat.{mul-pos}
 use native.Mathlib.Omega.{arith}
 use mathlib.Core.Bool.{Bool, true, false, not, _&&_, _||_, Bool·beq, cond}
 use lib.IntN.{ℤ}
@@ -148,6 +148,18 @@ Le-total (fin s m e) nan p q = absurd q
 Le-total (fin s m e) (inf true) p q = inr tt
 Le-total (fin s m e) (inf false) p q = inl tt
 Le-total (fin s m e) (fin t n d) p q = either (pp s (m * up e) * down d + nn t (n * up d) * down e) (pp t (n * up d) * down e + nn s (m * up e) * down d)
+
+-- zeros are level, and infinities ordered by their signs as numbers other than zero are
+pub zeros : (s : Bool) (e : ℤ) (t : Bool) (d : ℤ) → Le (fin s 0 e) (fin t 0 d)
+zeros true e true d = omega arith
+zeros true e false d = omega arith
+zeros false e true d = omega arith
+zeros false e false d = omega arith
+
+pub infs : (s t : Bool) (a c b d : ℕ) → 0 < a → 0 < d → Cross s a c t b d → Le (inf s) (inf t)
+infs true t a c b d A D h = tt
+infs false false a c b d A D h = tt
+infs false true a c b d A D h = let k : 0 < a * d = mul-pos A D in omega arith
 
 -- ---- the same for the test
 pub le-refl : (x : Float) → IsNum x → T (le x x)
