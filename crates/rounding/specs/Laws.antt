@@ -14,5 +14,6 @@ pub mod Quotients
 pub mod Products
 pub mod Count
 pub mod Whole
+pub mod Width
 pub mod Column
 pub mod Extremes

@@ -13,7 +13,7 @@ use lib.Ieee.Fits.{and-l, and-r, down-pos}
 use lib.Ieee.Bits.{ofBits-toBits}
 use lib.Ieee.Exact.{HasValue, round-exact}
 use lib.Ieee.Nearest.{div-same}
-use lib.Ieee.Scale.{overflow}
+use lib.Ieee.Scale.{overflow, finite}
 use Rattle.rounding.specs.Laws.Basics.{pow-le-back}
 
 -- ---- q * 2 ^ j of the smallest values, with few enough digits
@@ -69,6 +69,12 @@ units-bounded f s m e h n v =
   where
     go : (d B l : ℕ) → m * up e * l ≡ n * d → m * up e * l < B * d * l → n * d < l * B * d
     go d B l x y = omega arith
+
+-- ---- what equals a fraction is finite
+pub value-finite : (v : Float) (s : Bool) (a c : ℕ) → HasValue v s a c → T (finite v)
+value-finite nan s a c h = absurd h
+value-finite (inf t) s a c h = absurd h
+value-finite (fin t m e) s a c h = tt
 
 -- ---- rounding changes nothing
 pub round-held : (f : Format) (s : Bool) (m : ℕ) (e : ℤ) → T (fits f (fin s m e)) → HasValue (round f s (m * up e) (down e)) s (m * up e) (down e)

@@ -2,7 +2,7 @@
 -- For a c that is finite and above 0 they never are. And a product is the same either way round. Assumes nothing.
 use mathlib.Core.Path.{_≡_, refl, ap, ap₂, _∙_}
 use Prim.Native.Nat.{ℕ, zero, suc, _+_, _*_, _≤_, _<_}
-use native.Mathlib.Nat.{mul-comm, mul-pos, zero-lt-suc}
+use native.Mathlib.Nat.{mul-comm as times-comm, mul-pos, zero-lt-suc}
 use native.Mathlib.Omega.{arith}
 use mathlib.Core.Bool.{Bool, true, false, cond, true≢false}
 use lib.IntN.{ℤ}
@@ -21,22 +21,22 @@ unlike-comm true false = refl
 unlike-comm false true = refl
 unlike-comm false false = refl
 
-pub mul-comm-of : (f : Format) (x y : Float) → mul f x y ≡ mul f y x
+pub mul-comm : (f : Format) (x y : Float) → mul f x y ≡ mul f y x
 unfolding mul
-mul-comm-of f nan nan = refl
-mul-comm-of f nan (inf t) = refl
-mul-comm-of f nan (fin t n d) = refl
-mul-comm-of f (inf s) nan = refl
-mul-comm-of f (inf s) (inf t) = ap inf (unlike-comm s t)
-mul-comm-of f (inf s) (fin t n d) = ap (λ (u : Bool). cond (eqb n 0) nan (inf u)) (unlike-comm s t)
-mul-comm-of f (fin s m e) nan = refl
-mul-comm-of f (fin s m e) (inf t) = ap (λ (u : Bool). cond (eqb m 0) nan (inf u)) (unlike-comm s t)
-mul-comm-of f (fin s m e) (fin t n d) = rw (unlike-comm s t, mul-comm (m * up e) (n * up d), mul-comm (down e) (down d))
+mul-comm f nan nan = refl
+mul-comm f nan (inf t) = refl
+mul-comm f nan (fin t n d) = refl
+mul-comm f (inf s) nan = refl
+mul-comm f (inf s) (inf t) = ap inf (unlike-comm s t)
+mul-comm f (inf s) (fin t n d) = ap (λ (u : Bool). cond (eqb n 0) nan (inf u)) (unlike-comm s t)
+mul-comm f (fin s m e) nan = refl
+mul-comm f (fin s m e) (inf t) = ap (λ (u : Bool). cond (eqb m 0) nan (inf u)) (unlike-comm s t)
+mul-comm f (fin s m e) (fin t n d) = rw (unlike-comm s t, times-comm (m * up e) (n * up d), times-comm (down e) (down d))
 
 -- ---- by a finite number that is not negative
 pub mul-fin : (f : Format) (s : Bool) (m : ℕ) (e : ℤ) (n : ℕ) (d : ℤ) → mul f (fin s m e) (fin false n d) ≡ round f s (m * up e * (n * up d)) (down d * down e)
 unfolding mul
-mul-fin f s m e n d = rw (unlike-false s, mul-comm (down e) (down d))
+mul-fin f s m e n d = rw (unlike-false s, times-comm (down e) (down d))
 
 pub mul-inf : (f : Format) (s : Bool) (n : ℕ) (d : ℤ) → mul f (inf s) (fin false (suc n) d) ≡ inf s
 unfolding mul
@@ -80,7 +80,7 @@ mul-mono f x y (fin false zero d) h p = absurd p
 mul-mono f x y (fin false (suc n) d) h p = mul-Le f x y n d (le→Le x y h)
 
 pub mul-mono-right : (f : Format) (c x y : Float) → T (positive c) → T (le x y) → T (le (mul f c x) (mul f c y))
-mul-mono-right f c x y p h = rw (mul-comm-of f c x, mul-comm-of f c y) (mul-mono f x y c h p)
+mul-mono-right f c x y p h = rw (mul-comm f c x, mul-comm f c y) (mul-mono f x y c h p)
 
 -- ---- by +0: the results are zeros
 mul-by-zero-Le : (f : Format) (x y : Float) (d : ℤ) → Le x y → IsNum (mul f x (fin false zero d)) → IsNum (mul f y (fin false zero d)) → T (le (mul f x (fin false zero d)) (mul f y (fin false zero d)))

@@ -19,8 +19,8 @@ use Rattle.rounding.specs.Steps.{Root}
 use lib.Ieee.Digits.{size-le}
 use lib.Ieee.Nearest.{closest}
 use Rattle.rounding.specs.Laws.Isqrt.{isqrt-root, sq-lt}
-use Rattle.rounding.specs.Laws.Nearest.{NoNearer, round-nearest}
-use Rattle.rounding.specs.Laws.Held.{Held, held, bounded}
+use Rattle.rounding.specs.Laws.Nearest.{NoNearer, round-nearest, sum-is, order}
+use Rattle.rounding.specs.Laws.Held.{Held, held, bounded, value-finite}
 
 -- v is no farther from the root of x than w is: the middle of the two, (v + w) / 2, is on w's side of the root or on it, so its square is on that side of x.
 -- Each of the three is num / den.
@@ -73,18 +73,6 @@ middle-above g u A l r n d false x e L D h root =
 -- S * l is M * D, so S / D is M / l
 squares : (S M D l : ℕ) → S * l ≡ M * D → S * S * (l * l) ≡ M * M * (D * D)
 squares S M D l e = let a = ap (λ (x : ℕ). x * (S * l)) e in let b = ap (λ (x : ℕ). M * D * x) e in omega arith
-
--- num and den of v and w in units of 1 / l
-sum-is : (nv dv nw dw g u l : ℕ) → nv * l ≡ g * dv → nw * l ≡ u * dw → (nv * dw + nw * dv) * l ≡ (g + u) * (dv * dw)
-sum-is nv dv nw dw g u l p q = let a = ap (λ (x : ℕ). x * dw) p in let b = ap (λ (x : ℕ). x * dv) q in omega arith
-
-order : (nv dv nw dw g u l : ℕ) → 0 < dv → 0 < dw → 0 < l → nv * l ≡ g * dv → nw * l ≡ u * dw → nw * dv < nv * dw → u < g
-order nv dv nw dw g u l X W L p q h =
-    let a : nw * dv * l < nv * dw * l = mul-lt-mul-of-pos-right h L in
-    let b = ap (λ (x : ℕ). x * dw) p in
-    let c = ap (λ (x : ℕ). x * dv) q in
-    let d : u * (dv * dw) < g * (dv * dw) = omega arith in
-    lt-of-mul-lt-mul-right (dv * dw) d
 
 scaled-below : (S M D l nx dx n : ℕ) → 0 < l → S * l ≡ M * D → n ≡ 4 * nx * (l * l) → M * M * dx ≤ n → S * S * dx ≤ 4 * (D * D) * nx
 scaled-below S M D l nx dx n L e k h =
@@ -156,11 +144,6 @@ root-nearest f m e n k h t =
 
 -- ---- the root is finite
 
-finite-of : (v : Float) (s : Bool) (a c : ℕ) → HasValue v s a c → T (finite v)
-finite-of nan s a c h = absurd h
-finite-of (inf t) s a c h = absurd h
-finite-of (fin t m e) s a c h = tt
-
 -- a whole root r of what lies below 2 * B * T * T
 root-lt : (r q B T : ℕ) → r * r ≤ q → q < 2 * B * (T * T) → 2 ≤ B → r < B * T
 root-lt r q B T h k b =
@@ -207,7 +190,7 @@ root-finite f a d D h =
     subst (λ (x : ℕ). A * l < x * c) (sym (pow-add 2 (emax f) (low f)))
     (let x : A < 2 * (B * T′) = omega arith in let y = mul-lt-mul-of-pos-right x (pow-pos (low f)) in omega arith) in
     let C : 0 < c = mul-pos (zero-lt-suc 1) (pow-pos (suc (low f))) in
-    subst (λ (x : Float). T (finite x)) (sym (rootOf-is f a d)) (finite-of (round f false A c) false (grid f A c) l (round-val f A c (grid-le f A c C al)))
+    subst (λ (x : Float). T (finite x)) (sym (rootOf-is f a d)) (value-finite (round f false A c) false (grid f A c) l (round-val f A c (grid-le f A c C al)))
 
 pub sqrt-finite : (f : Format) (m : ℕ) (e : ℤ) → 0 < m → T (fits f (fin false m e)) → T (finite (sqrtOf f (fin false m e)))
 sqrt-finite f m e p h = subst (λ (v : Float). T (finite v)) (sym (sqrt-pos f m e p)) (root-finite f (m * up e) (down e) (down-pos e) (bounded f false m e h))

@@ -151,6 +151,14 @@ whole-value f w s m (negsuc k) h =
     rw (whole-fin f w s m (negsuc k), mul-one m)
     (round-whole f s (wholeSize (w s) m (2 ^ suc k)) (le-trans (size-small (w s) m (2 ^ suc k) (pow-pos (suc k))) (le-of-lt (digits f s m (negsuc k) h))))
 
+-- so what is whole already stays
+pub whole-same : (f : Format) (w : Bool → Way) (x : Float) (t : Bool) (k : ℕ) → T (fits f x) → HasValue x t k 1 → wholeOf f w x ≡ x
+whole-same f w nan t k h v = absurd v
+whole-same f w (inf s) t k h v = absurd v
+whole-same f w (fin s m e) t k h v =
+    value-unique f (wholeOf f w (fin s m e)) (fin s m e) s (wholeSize (w s) (m * up e) (down e)) 1 (zero-lt-suc 0) (whole-fits f w (fin s m e)) h (whole-value f w s m e h)
+    (refl, v .1 ∙ ap (λ (z : ℕ). z * down e) (sym (size-same (w s) (m * up e) (down e) k 1 (down-pos e) (zero-lt-suc 0) (v .1) ∙ size-one (w s) k)))
+
 pub floor-value : (f : Format) (s : Bool) (m : ℕ) (e : ℤ) → T (fits f (fin s m e)) → HasValue (floorOf f (fin s m e)) s (wholeSize (ways toward away s) (m * up e) (down e)) 1
 floor-value f s m e h = whole-value f (ways toward away) s m e h
 
