@@ -1,12 +1,14 @@
--- Small facts on tests, powers of two and quotients that the laws and the proofs share, and the toolchain's library keeps to itself. Assumes nothing.
+-- Small facts on tests, the formats, powers of two and quotients that the laws and the proofs share, and the toolchain's library keeps to itself. Assumes nothing.
 use mathlib.Core.Path.{_≡_, refl, ap, _∙_}
 use mathlib.Core.Logic.{_⊎_, inl, inr}
 use Prim.Native.Nat.{ℕ, suc, _+_, _*_, _/_, _^_, _≤_, _<_}
 use native.Mathlib.Nat.{lt-of-lt-of-le, lt-of-not-le, lt-irrefl, le-of-suc-le-suc}
+use native.Mathlib.Omega.{arith}
 use mathlib.Core.Bool.{Bool, true, false, _||_}
-use lib.Dec.{T, leb, leb→le, le→leb}
+use lib.Dec.{T, leb, leb→le, le→leb, lit≤}
 use lib.Arith.{digits-div}
 use lib.Pow.{pow-lt}
+use lib.Ieee.{Format, binary32, binary64, emax, ones}
 
 -- ---- tests
 
@@ -30,6 +32,15 @@ same-test false false p q = refl
 
 pub leb-same : (a b c d : ℕ) → (a ≤ b → c ≤ d) → (c ≤ d → a ≤ b) → leb a b ≡ leb c d
 leb-same a b c d p q = same-test (leb a b) (leb c d) (λ t. le→leb c d (p (leb→le a b t))) (λ t. le→leb a b (q (leb→le c d t)))
+
+-- ---- the formats
+
+pub emax-ge : (f : Format) → 3 ≤ emax f
+emax-ge binary32 = lit≤ tt
+emax-ge binary64 = lit≤ tt
+
+pub ones-ge : (f : Format) → 3 ≤ ones f
+ones-ge f = let e = emax-ge f in omega arith
 
 -- ---- numbers
 

@@ -1,26 +1,24 @@
 -- The column of a grid that a coordinate x falls into: floor ((x - m) / cell), cut to the range of the grid. It keeps the order, whatever m is, for every cell that is not negative:
 -- where a nan comes up, the column is 0 and no smaller x has a larger one. Assumes nothing.
-use mathlib.Core.Path.{_≡_, refl, sym, ap, _∙_, subst}
+use mathlib.Core.Path.{_≡_, refl, sym, ap, _∙_}
 use mathlib.Core.Logic.{_⊎_, inl, inr}
-use Prim.Native.Nat.{ℕ, zero, suc, _+_, _-_, _*_, _/_, _^_, _≤_, _<_, min, zero-le}
+use Prim.Native.Nat.{ℕ, zero, suc, _+_, _-_, _*_, _^_, _≤_, _<_, min, zero-le}
 use native.Mathlib.Nat.{mul-pos, zero-mul, zero-min}
 use native.Mathlib.Omega.{arith}
-use mathlib.Core.Bool.{Bool, true, false, not, _&&_, _||_, cond, true≢false}
+use mathlib.Core.Bool.{Bool, true, false, _||_, cond, true≢false}
 use lib.IntN.{ℤ, pos, negsuc}
-use lib.Dec.{T, ltb, eqb, eqb·suc-zero}
-use lib.Pow.{pow-pos}
-use lib.Ieee.{Float, nan, inf, fin, Format, binary32, up, down, odd, size, round, add, sub, neg, div, unlike, lt, le, isNan, toUnsigned}
+use lib.Dec.{T, eqb, eqb·suc-zero}
+use lib.Ieee.{Float, nan, inf, fin, Format, binary32, up, down, round, sub, div, unlike, lt, le, isNan, toUnsigned}
 use lib.Ieee.Fits.{up-pos, down-pos, div-fits}
 use lib.Ieee.Exact.{HasValue}
 use lib.Ieee.Positive.{above, above-of-le, positive}
 use Rattle.rounding.specs.Whole.{floorOf}
 use Rattle.rounding.specs.Column.{bucket, col}
-use Rattle.rounding.specs.Laws.Signed.{pp, nn, Cross}
-use Rattle.rounding.specs.Laws.Order.{IsNum, Le, le→Le, Le→le, Le-right, le-of-lt, le-num-right}
+use Rattle.rounding.specs.Laws.Order.{Le, le→Le, Le→le, Le-right, le-of-lt}
 use Rattle.rounding.specs.Laws.Basics.{or-split}
-use Rattle.rounding.specs.Laws.Rounding.{Signed, odd-signed, round-signed, round-zero, zero-of}
+use Rattle.rounding.specs.Laws.Rounding.{Signed, round-signed, round-zero, zero-of}
 use Rattle.rounding.specs.Laws.Sums.{sub-mono-left, sub-num}
-use Rattle.rounding.specs.Laws.Quotients.{div-Le, div-fin, div-inf, unlike-false}
+use Rattle.rounding.specs.Laws.Quotients.{div-Le, div-fin, unlike-false}
 use Rattle.rounding.specs.Laws.Count.{Low, low-cast, toUnsigned-mono}
 use Rattle.rounding.specs.Laws.Whole.{cast-floor}
 

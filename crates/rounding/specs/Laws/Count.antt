@@ -1,16 +1,15 @@
 -- The cast to an unsigned integer keeps the order, and cuts the fraction off. Assumes nothing.
-use mathlib.Core.Path.{_≡_, refl, sym, ap, _∙_}
-use Prim.Native.Nat.{ℕ, zero, suc, _+_, _-_, _*_, _/_, _^_, _≤_, _<_, min, zero-le}
+use mathlib.Core.Path.{_≡_, refl, sym, ap}
+use Prim.Native.Nat.{ℕ, _-_, _*_, _/_, _^_, _≤_, _<_, min, zero-le}
 use native.Mathlib.Nat.{zero-mul, zero-div}
 use native.Mathlib.Omega.{arith}
 use mathlib.Core.Bool.{Bool, true, false, cond, true≢false}
-use lib.IntN.{ℤ}
 use lib.Dec.{T}
 use lib.Ieee.{Float, nan, inf, fin, up, down, le, toUnsigned}
 use lib.Ieee.Fits.{down-pos}
 use lib.Ieee.Exact.{HasValue}
 use lib.Ieee.Nearest.{div-mono, div-same}
-use Rattle.rounding.specs.Laws.Signed.{pp, nn, Cross}
+use Rattle.rounding.specs.Laws.Signed.{Cross}
 use Rattle.rounding.specs.Laws.Order.{Le, le→Le}
 use Rattle.rounding.specs.Laws.Rounding.{zero-of}
 

@@ -1,6 +1,6 @@
 -- A finite number that a format holds, in units of the format's smallest value: it has few enough digits, and it is not too large. And a value that a format holds is
 -- written in one way. Assumes nothing.
-use mathlib.Core.Path.{_≡_, refl, sym, ap, _∙_}
+use mathlib.Core.Path.{_≡_, sym, ap, _∙_}
 use Prim.Native.Nat.{ℕ, zero, suc, _+_, _-_, _*_, _/_, _%_, _^_, _≤_, _<_}
 use native.Mathlib.Nat.{mul-one, mul-assoc, mul-right-comm, zero-mul, mul-lt-mul-of-pos-right, lt-of-mul-lt-mul-right, lt-of-lt-of-le, lt-of-le-of-lt, le-of-eq}
 use native.Mathlib.Omega.{arith}

@@ -1,18 +1,18 @@
 -- The order of floats: `le` is a total preorder on the values that are no nan, `lt` is its strict part, and `eq` its equivalence. A comparison with a nan is false.
 -- The values need fit no format. Infinities, zeros of both signs and negative numbers are included. Assumes nothing.
-use mathlib.Core.Path.{_≡_, refl, sym, ap, subst}
+use mathlib.Core.Path.{_≡_, refl, sym, subst}
 use mathlib.Core.Logic.{_⊎_, inl, inr, _↔_}
-use Prim.Native.Nat.{ℕ, zero, suc, _+_, _-_, _*_, _≤_, _<_}
+use Prim.Native.Nat.{ℕ, _+_, _*_, _≤_, _<_}
 use native.Mathlib.Nat.{mul-pos}
 use native.Mathlib.Omega.{arith}
-use mathlib.Core.Bool.{Bool, true, false, not, _&&_, _||_, Bool·beq, cond}
+use mathlib.Core.Bool.{Bool, true, false, not}
 use lib.IntN.{ℤ}
-use lib.Dec.{T, T-not, not-T, leb, ltb, eqb, ltb→lt, lt→ltb, eqb→eq, nltb→le, nleb→lt, leb→le}
-use lib.Ieee.{Float, nan, inf, fin, up, down, below, level, lt, eq, le, ne, neg, isNan}
+use lib.Dec.{T, T-not, not-T, leb, nleb→lt, leb→le}
+use lib.Ieee.{Float, nan, inf, fin, up, down, lt, eq, le, ne, isNan}
 use lib.Ieee.Compare.{differs-from-itself}
-use lib.Ieee.Fits.{up-pos, down-pos}
+use lib.Ieee.Fits.{down-pos}
 use Rattle.rounding.specs.Laws.Basics.{or-l, or-r, or-split}
-use Rattle.rounding.specs.Laws.Signed.{pp, nn, Leq, Less, below→Less, Less→below, level→eq, eq→level, Leq→le, le→Leq, Cross, scaled, unscaled, cross-trans}
+use Rattle.rounding.specs.Laws.Signed.{pp, nn, Leq, below→Less, Less→below, level→eq, eq→level, Leq→le, le→Leq, Cross, scaled, unscaled, cross-trans}
 
 -- a number: an infinity or a finite value
 abbrev pub IsNum : Float → Type 0

@@ -1,16 +1,15 @@
 -- A product x * c grows with x, for a c that is not negative and has the sign bit clear: a number above 0, +0 or +infinity, wherever the results are no nan.
 -- For a c that is finite and above 0 they never are. And a product is the same either way round. Assumes nothing.
-use mathlib.Core.Path.{_≡_, refl, ap, ap₂, _∙_}
-use Prim.Native.Nat.{ℕ, zero, suc, _+_, _*_, _≤_, _<_}
+use mathlib.Core.Path.{_≡_, refl, ap}
+use Prim.Native.Nat.{ℕ, zero, suc, _*_, _<_}
 use native.Mathlib.Nat.{mul-comm as times-comm, mul-pos, zero-lt-suc}
-use native.Mathlib.Omega.{arith}
 use mathlib.Core.Bool.{Bool, true, false, cond, true≢false}
 use lib.IntN.{ℤ}
 use lib.Dec.{T, eqb, eqb·suc-zero}
 use lib.Ieee.{Float, nan, inf, fin, Format, up, down, round, unlike, mul, le}
 use lib.Ieee.Fits.{up-pos, down-pos}
 use lib.Ieee.Positive.{positive}
-use Rattle.rounding.specs.Laws.Signed.{Cross, cross-mul}
+use Rattle.rounding.specs.Laws.Signed.{cross-mul}
 use Rattle.rounding.specs.Laws.Order.{IsNum, Le, le→Le, Le→le, le-bottom, le-top, Le-right, infs}
 use Rattle.rounding.specs.Laws.Rounding.{Signed, round-order, round-num}
 use Rattle.rounding.specs.Laws.Quotients.{unlike-false}

@@ -1,18 +1,16 @@
 -- A quotient x / c grows with x, for a c that is not negative and has the sign bit clear: a number above 0, +0 or +infinity, wherever the results are no nan.
 -- For a c that is finite and above 0 they never are. Assumes nothing.
-use mathlib.Core.Path.{_≡_, refl, sym, ap, _∙_, subst}
-use mathlib.Core.Logic.{_⊎_, inl, inr}
-use Prim.Native.Nat.{ℕ, zero, suc, _+_, _-_, _*_, _≤_, _<_}
+use mathlib.Core.Path.{_≡_, refl}
+use Prim.Native.Nat.{ℕ, zero, suc, _*_, _<_}
 use native.Mathlib.Nat.{mul-pos, zero-lt-suc}
-use native.Mathlib.Omega.{arith}
-use mathlib.Core.Bool.{Bool, true, false, not, _&&_, Bool·beq, cond, true≢false}
+use mathlib.Core.Bool.{Bool, true, false, true≢false}
 use lib.IntN.{ℤ, pos}
-use lib.Dec.{T, ltb, eqb, eqb→eq, eqb·suc-zero, ltb→lt, nltb→le}
+use lib.Dec.{T, eqb·suc-zero}
 use lib.Ieee.{Float, nan, inf, fin, Format, up, down, round, unlike, div, le}
 use lib.Ieee.Fits.{up-pos, down-pos}
 use lib.Ieee.Positive.{positive}
-use Rattle.rounding.specs.Laws.Signed.{pp, nn, Cross, cross-mul}
-use Rattle.rounding.specs.Laws.Order.{IsNum, Le, le→Le, Le→le, bottom, top, le-bottom, le-top, Le-right, zeros, infs}
+use Rattle.rounding.specs.Laws.Signed.{cross-mul}
+use Rattle.rounding.specs.Laws.Order.{IsNum, Le, le→Le, Le→le, le-bottom, le-top, Le-right, zeros, infs}
 use Rattle.rounding.specs.Laws.Rounding.{Signed, round-order, round-num}
 
 pub unlike-false : (s : Bool) → unlike s false ≡ s

@@ -1,15 +1,14 @@
 -- `sqrtOf` is right: of all that the format holds, no number is nearer to the root (`sqrt-nearest`). The statement has no scaling in it, and no `isqrt`. Assumes nothing.
 use mathlib.Core.Path.{_≡_, refl, sym, ap, _∙_, subst}
-use mathlib.Core.Logic.{_⊎_, inl, inr}
 use Prim.Native.Nat.{ℕ, zero, suc, _+_, _-_, _*_, _/_, _%_, _^_, _≤_, _<_, compare}
-use native.Mathlib.Nat.{le-trans, le-of-eq, lt-of-lt-of-le, lt-of-le-of-lt, div-div-eq-div-mul, lt-irrefl, lt-of-not-le, not-le-of-lt, le-of-suc-le-suc, mul-le-mul, mul-le-mul-left, mul-le-mul-right, mul-lt-mul-of-pos-right, le-of-mul-le-mul-right, lt-of-mul-lt-mul-right, mul-pos, mul-one, mul-assoc, mul-comm, mul-right-comm, zero-mul, div-mul-le-self, div-lt-iff-lt-mul, zero-lt-suc, pow-succ'}
+use native.Mathlib.Nat.{le-trans, le-of-eq, lt-of-le-of-lt, div-div-eq-div-mul, lt-irrefl, mul-le-mul, mul-le-mul-right, mul-lt-mul-of-pos-right, le-of-mul-le-mul-right, mul-pos, div-mul-le-self, div-lt-iff-lt-mul, zero-lt-suc, pow-succ'}
 use native.Mathlib.Omega.{arith}
-use mathlib.Core.Bool.{Bool, true, false, not, cond, _&&_}
-use lib.IntN.{ℤ, pos, negsuc}
-use lib.Dec.{T, leb, ltb, eqb, eqb→eq, leb→le, ltb→lt, not-T, lit≤}
+use mathlib.Core.Bool.{Bool, true, false, cond}
+use lib.IntN.{ℤ}
+use lib.Dec.{T, eqb, eqb→eq, not-T, lit≤}
 use lib.Pow.{pow-add, pow-pos, pow-mono, pow-lt}
-use lib.Ieee.{Float, nan, inf, fin, Format, binary32, binary64, size, prec, emax, low, up, down, round, fits}
-use lib.Ieee.Fits.{two, and-l, and-r, down-pos, kept-lt, nearest-le}
+use lib.Ieee.{Float, nan, fin, Format, size, prec, emax, low, up, down, round, fits}
+use lib.Ieee.Fits.{two, down-pos, kept-lt, nearest-le}
 use lib.Ieee.Bits.{cond-no}
 use lib.Ieee.Exact.{HasValue}
 use lib.Ieee.Scale.{grid, overflow, round-val, round-under, finite}
@@ -18,6 +17,7 @@ use Rattle.rounding.specs.Root.{isqrt, rootOf, sqrtOf}
 use Rattle.rounding.specs.Steps.{Root}
 use lib.Ieee.Digits.{size-le}
 use lib.Ieee.Nearest.{closest}
+use Rattle.rounding.specs.Laws.Basics.{emax-ge}
 use Rattle.rounding.specs.Laws.Isqrt.{isqrt-root, sq-lt}
 use Rattle.rounding.specs.Laws.Nearest.{NoNearer, round-nearest, sum-is, order}
 use Rattle.rounding.specs.Laws.Held.{Held, held, bounded, value-finite}
@@ -100,13 +100,16 @@ small : (b : Bool) → over b ≤ 1
 small true = omega arith
 small false = omega arith
 
-pub sqrt-pos : (f : Format) (m : ℕ) (e : ℤ) → 0 < m → sqrtOf f (fin false m e) ≡ rootOf f (m * up e) (down e)
+pub sqrt-fin : (f : Format) (s : Bool) (m : ℕ) (e : ℤ) → 0 < m → sqrtOf f (fin s m e) ≡ cond s nan (rootOf f (m * up e) (down e))
 unfolding sqrtOf
-sqrt-pos f zero e h = absurd (lt-irrefl 0 h)
-sqrt-pos f (suc m) e h = cond-no (eqb (suc m) 0) (fin false (suc m) e) (rootOf f (suc m * up e) (down e)) (not-T (eqb (suc m) 0) (λ t. no (eqb→eq (suc m) 0 t)))
+sqrt-fin f s zero e h = absurd (lt-irrefl 0 h)
+sqrt-fin f s (suc m) e h = cond-no (eqb (suc m) 0) (fin s (suc m) e) (cond s nan (rootOf f (suc m * up e) (down e))) (not-T (eqb (suc m) 0) (λ t. no (eqb→eq (suc m) 0 t)))
   where
     no : suc m ≡ 0 → ⊥
     no z = omega arith
+
+pub sqrt-pos : (f : Format) (m : ℕ) (e : ℤ) → 0 < m → sqrtOf f (fin false m e) ≡ rootOf f (m * up e) (down e)
+sqrt-pos f m e h = sqrt-fin f false m e h
 
 root-nearest : (f : Format) (m : ℕ) (e : ℤ) (n : ℕ) (k : ℤ) → Held f n k → T (finite (rootOf f (m * up e) (down e))) → NoFarther (fin false m e) (rootOf f (m * up e) (down e)) (fin false n k)
 root-nearest f m e n k h t =
@@ -150,10 +153,6 @@ root-lt r q B T h k b =
     let a : 2 * (B * (T * T)) ≤ B * (B * (T * T)) = mul-le-mul-right (B * (T * T)) b in
     sq-lt r (B * T) (omega arith)
 
-big : (f : Format) → 1 ≤ emax f
-big binary32 = lit≤ tt
-big binary64 = lit≤ tt
-
 -- a / c below 2 ^ emax is rounded to no more than that
 grid-le : (f : Format) (a c : ℕ) → 0 < c → a * 2 ^ low f < 2 ^ (emax f + low f) * c → grid f a c < overflow f
 grid-le f a c C h =
@@ -163,7 +162,7 @@ grid-le f a c C h =
     let z : size (n / c) ≤ emax f + low f = size-le (n / c) (emax f + low f) (div-lt-iff-lt-mul C .1 h) in
     let w : n / (c * 2 ^ k) < 2 ^ p = subst (λ (x : ℕ). x < 2 ^ p) (div-div-eq-div-mul n c (2 ^ k)) (kept-lt p (n / c)) in
     let y : closest n (c * 2 ^ k) ≤ 2 ^ p = le-trans (nearest-le (n / (c * 2 ^ k)) (compare (n % (c * 2 ^ k) * 2) (c * 2 ^ k))) w in
-    let b = big f in
+    let b = emax-ge f in
     let t = two f in
     let i : p + k < low f + suc (emax f) = omega arith in
     lt-of-le-of-lt (mul-le-mul-right (2 ^ k) y) (lt-of-le-of-lt (le-of-eq (sym (pow-add 2 p k))) (pow-lt i))
@@ -184,7 +183,7 @@ root-finite f a d D h =
     div-lt-iff-lt-mul D .1
     (subst (λ (x : ℕ). a * x < 2 * B * (T′ * T′) * d) (sym (four (suc (low f))))
     (let x = mul-lt-mul-of-pos-right (subst (λ (y : ℕ). a < y * d) be h) (mul-pos (pow-pos (suc (low f))) (pow-pos (suc (low f)))) in omega arith)) in
-    let rl : r < B * T′ = root-lt r (N / d) B T′ (isqrt-root (N / d) .under) q (pow-mono (big f)) in
+    let rl : r < B * T′ = root-lt r (N / d) B T′ (isqrt-root (N / d) .under) q (pow-mono {i = 1} (le-trans (lit≤ tt) (emax-ge f))) in
     let few = small b in
     let al : A * l < 2 ^ (emax f + low f) * c =
     subst (λ (x : ℕ). A * l < x * c) (sym (pow-add 2 (emax f) (low f)))

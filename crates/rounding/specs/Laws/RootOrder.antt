@@ -1,12 +1,12 @@
 -- `sqrtOf` keeps the order: of two numbers that are not below zero, the larger has no smaller root (`sqrt-mono`). Assumes nothing.
-use mathlib.Core.Path.{_≡_, refl, sym, ap, _∙_, subst}
+use mathlib.Core.Path.{_≡_, refl, sym, ap, subst}
 use mathlib.Core.Logic.{_⊎_, inl, inr}
-use Prim.Native.Nat.{ℕ, zero, suc, _+_, _-_, _*_, _/_, _^_, _≤_, _<_}
-use native.Mathlib.Nat.{le-trans, lt-of-le-of-lt, lt-irrefl, le-of-mul-le-mul-right, mul-le-mul, mul-le-mul-right, mul-pos, div-mul-le-self, le-div-iff-mul-le, zero-lt-suc, le-antisymm, eq-or-lt-of-le}
+use Prim.Native.Nat.{ℕ, zero, suc, _+_, _*_, _/_, _^_, _≤_, _<_}
+use native.Mathlib.Nat.{le-trans, lt-of-le-of-lt, le-of-mul-le-mul-right, mul-le-mul-right, mul-pos, div-mul-le-self, le-div-iff-mul-le, zero-lt-suc, le-antisymm, eq-or-lt-of-le}
 use native.Mathlib.Omega.{arith}
-use mathlib.Core.Bool.{Bool, true, false, not}
+use mathlib.Core.Bool.{Bool, true, false}
 use lib.IntN.{ℤ, pos}
-use lib.Dec.{T, T-not, eqb, eqb→eq, eqb-refl}
+use lib.Dec.{T, eqb, eqb→eq, eqb-refl}
 use lib.Pow.{pow-pos}
 use lib.Ieee.{Float, nan, inf, fin, Format, binary32, binary64, low, up, down, round, le}
 use lib.Ieee.Fits.{up-pos, down-pos}

@@ -1,26 +1,24 @@
 -- Floats to whole numbers. Every way keeps the order (`whole-mono`). Of a value that the format holds, the result is the whole number exactly (`whole-value`): so the floor is
 -- the greatest whole number at most x, and a cast to an unsigned integer makes the same of x and of its floor. Assumes nothing.
-use mathlib.Core.Path.{_≡_, refl, sym, ap, ap₂, _∙_}
+use mathlib.Core.Path.{_≡_, refl, sym, ap, _∙_}
 use mathlib.Core.Logic.{_⊎_, inl, inr}
-use Prim.Native.Nat.{ℕ, zero, suc, _+_, _-_, _*_, _/_, _%_, _^_, _≤_, _<_, min, zero-le}
-use native.Mathlib.Nat.{le-trans, le-of-eq, le-of-lt, lt-of-lt-of-le, le-antisymm, mul-pos, mul-one, mul-le-mul-left, mul-le-mul-right, le-of-mul-le-mul-right, div-add-mod', div-mul-le-self, le-div-iff-mul-le, mod-lt, mod-one, div-one, add-zero, zero-div, zero-mod, zero-lt-suc, eq-or-lt-of-le}
+use Prim.Native.Nat.{ℕ, suc, _+_, _-_, _*_, _/_, _%_, _^_, _≤_, _<_, min, zero-le}
+use native.Mathlib.Nat.{le-trans, le-of-eq, le-of-lt, lt-of-lt-of-le, le-antisymm, mul-pos, mul-one, mul-le-mul-left, mul-le-mul-right, le-of-mul-le-mul-right, div-add-mod', div-mul-le-self, mod-lt, mod-one, div-one, add-zero, zero-lt-suc, eq-or-lt-of-le}
 use native.Mathlib.Omega.{arith}
 use mathlib.Core.Bool.{Bool, true, false, not}
 use lib.IntN.{ℤ, pos, negsuc}
-use lib.Dec.{T, leb, leb→le, le→leb, nleb→lt, lit≤}
-use lib.Arith.{lt→nleb}
+use lib.Dec.{T, leb, leb→le, le→leb, nleb→lt}
 use lib.Pow.{pow-pos}
 use lib.Ieee.{Float, nan, inf, fin, Format, up, down, round, le, toUnsigned, fits}
 use lib.Ieee.Fits.{down-pos, round-fits, nan-fits, inf-fits}
-use lib.Ieee.Bits.{is-false}
 use lib.Ieee.Back.{round-whole}
 use lib.Ieee.Exact.{HasValue}
-use lib.Ieee.Nearest.{div-mono, div-same}
+use lib.Ieee.Nearest.{div-mono}
 use lib.Ieee.Positive.{first-pos}
 use Rattle.rounding.specs.Whole.{Way, toward, half, away, moves, one-if, wholeBy, wholeOf, ways, floorOf, ceilOf, roundOf}
-use Rattle.rounding.specs.Laws.Signed.{pp, nn, Cross, cross-trans}
-use Rattle.rounding.specs.Laws.Order.{IsNum, Le, le→Le, Le→le, Le-right, le-bottom, le-top, le-refl}
-use Rattle.rounding.specs.Laws.Rounding.{Signed, round-order, round-num, round-signed, same-le, le-of-values, zero-of}
+use Rattle.rounding.specs.Laws.Signed.{Cross, cross-trans}
+use Rattle.rounding.specs.Laws.Order.{IsNum, Le, le→Le, Le-right, le-bottom, le-top, le-refl}
+use Rattle.rounding.specs.Laws.Rounding.{round-order, round-num, same-le, le-of-values, zero-of}
 use Rattle.rounding.specs.Laws.Held.{digits, round-held, value-unique}
 use Rattle.rounding.specs.Laws.Count.{cast-value, cast-minus}
 

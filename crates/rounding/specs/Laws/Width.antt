@@ -1,6 +1,6 @@
 -- A float to another format keeps the order, leaves a value that the format holds as it is, and goes to the nearest value that the format holds. Assumes nothing.
 use mathlib.Core.Path.{_≡_, refl}
-use Prim.Native.Nat.{ℕ, _+_, _*_, _≤_, _<_}
+use Prim.Native.Nat.{ℕ, _*_}
 use mathlib.Core.Bool.{Bool, true, false}
 use lib.IntN.{ℤ}
 use lib.Dec.{T}
