@@ -8,6 +8,7 @@ use lib.IntN.{ℤ}
 use lib.Dec.{T, eqb, eqb·suc-zero}
 use lib.Ieee.{Float, nan, inf, fin, Format, up, down, round, unlike, mul, le}
 use lib.Ieee.Fits.{up-pos, down-pos}
+use lib.Ieee.Scale.{finite}
 use lib.Ieee.Positive.{positive}
 use Rattle.rounding.specs.Laws.Signed.{cross-mul}
 use Rattle.rounding.specs.Laws.Order.{IsNum, Le, le→Le, Le→le, le-bottom, le-top, Le-right, infs}
@@ -122,3 +123,24 @@ mul-mono-signed f x y (inf false) h k p q = mul-by-inf-Le f x y (le→Le x y h) 
 mul-mono-signed f x y (fin true n d) h k p q = absurd (true≢false k)
 mul-mono-signed f x y (fin false zero d) h k p q = mul-by-zero-Le f x y d (le→Le x y h) p q
 mul-mono-signed f x y (fin false (suc n) d) h k p q = mul-Le f x y n d (le→Le x y h)
+
+pub mul-mono-signed-right : (f : Format) (c x y : Float) → Signed false c → T (le x y) → IsNum (mul f c x) → IsNum (mul f c y) → T (le (mul f c x) (mul f c y))
+mul-mono-signed-right f c x y k h p q = rw (mul-comm f c x, mul-comm f c y) (mul-mono-signed f x y c h k (rw (mul-comm f c x) at p) (rw (mul-comm f c y) at q))
+
+-- ---- where the results are numbers: the factors are, and two finite factors make one
+pub mul-num-left : (f : Format) (x y : Float) → IsNum (mul f x y) → IsNum x
+unfolding mul
+mul-num-left f nan y p = p
+mul-num-left f (inf s) y p = tt
+mul-num-left f (fin s m e) y p = tt
+
+pub mul-num-right : (f : Format) (x y : Float) → IsNum (mul f x y) → IsNum y
+mul-num-right f x y p = mul-num-left f y x (rw (mul-comm f x y) at p)
+
+pub mul-num-finite : (f : Format) (x y : Float) → T (finite x) → T (finite y) → IsNum (mul f x y)
+unfolding mul
+mul-num-finite f nan y p q = p
+mul-num-finite f (inf s) y p q = absurd p
+mul-num-finite f (fin s m e) nan p q = q
+mul-num-finite f (fin s m e) (inf t) p q = absurd q
+mul-num-finite f (fin s m e) (fin t n d) p q = round-num f (unlike s t) (m * up e * (n * up d)) (down e * down d)

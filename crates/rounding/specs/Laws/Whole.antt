@@ -9,7 +9,7 @@ use mathlib.Core.Bool.{Bool, true, false, not}
 use lib.IntN.{ℤ, pos, negsuc}
 use lib.Dec.{T, leb, leb→le, le→leb, nleb→lt}
 use lib.Pow.{pow-pos}
-use lib.Ieee.{Float, nan, inf, fin, Format, up, down, round, le, toUnsigned, fits}
+use lib.Ieee.{Float, nan, inf, fin, Format, binary32, up, down, round, le, toUnsigned, fits}
 use lib.Ieee.Fits.{down-pos, round-fits, nan-fits, inf-fits}
 use lib.Ieee.Back.{round-whole}
 use lib.Ieee.Exact.{HasValue}
@@ -136,8 +136,8 @@ floor-mono f x y h = whole-mono f (ways toward away) x y h
 pub ceil-mono : (f : Format) (x y : Float) → T (le x y) → T (le (ceilOf f x) (ceilOf f y))
 ceil-mono f x y h = whole-mono f (ways away toward) x y h
 
-pub half-mono : (f : Format) (x y : Float) → T (le x y) → T (le (roundOf f x) (roundOf f y))
-half-mono f x y h = whole-mono f (ways half half) x y h
+pub roundOf-mono : (f : Format) (x y : Float) → T (le x y) → T (le (roundOf f x) (roundOf f y))
+roundOf-mono f x y h = whole-mono f (ways half half) x y h
 
 -- ---- the value: a format that holds x holds every whole number that x goes to
 size-small : (w : Way) (m d : ℕ) → 0 < d → wholeSize w m d ≤ m
@@ -232,3 +232,28 @@ cast-floor w f (fin false m e) h =
     cast-value w (floorOf f (fin false m e)) (wholeSize toward (m * up e) (down e)) 1 (zero-lt-suc 0) (floor-value f false m e h)
     ∙ ap (λ (z : ℕ). min z (2 ^ w - 1)) (div-one (wholeSize toward (m * up e) (down e)) ∙ add-zero (m * up e / down e))
     ∙ sym (cast-value w (fin false m e) (m * up e) (down e) (down-pos e) (refl, refl))
+
+-- ---- worked cases: the floors of 1.5, -1.5, 0.5, -0.5, -0 and 6
+floor-1 : floorOf binary32 (fin false 3 (negsuc 0)) ≡ fin false 1 (pos 0)
+unfolding wholeOf
+floor-1 = refl
+
+floor-2 : floorOf binary32 (fin true 3 (negsuc 0)) ≡ fin true 1 (pos 1)
+unfolding wholeOf
+floor-2 = refl
+
+floor-3 : floorOf binary32 (fin false 1 (negsuc 0)) ≡ fin false 0 (pos 0)
+unfolding wholeOf
+floor-3 = refl
+
+floor-4 : floorOf binary32 (fin true 1 (negsuc 0)) ≡ fin true 1 (pos 0)
+unfolding wholeOf
+floor-4 = refl
+
+floor-5 : floorOf binary32 (fin true 0 (pos 0)) ≡ fin true 0 (pos 0)
+unfolding wholeOf
+floor-5 = refl
+
+floor-6 : floorOf binary32 (fin false 3 (pos 1)) ≡ fin false 3 (pos 1)
+unfolding wholeOf
+floor-6 = refl

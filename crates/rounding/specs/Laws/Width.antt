@@ -67,7 +67,7 @@ narrow-same f (fin s m e) h =
 pub widen-same : (x : Float) → T (fits binary32 x) → narrowOf binary64 x ≡ x
 widen-same x h = narrow-same binary64 x (fits-widens x h)
 
--- ---- the nearest value: `fin s n k` stands for any number of x's sign, zero included, that the format holds
+-- ---- the nearest value: `fin s n k` stands for any number of x's sign, zero included, that the format holds. One of the other sign is farther from x than zero is.
 pub narrow-nearest : (f : Format) (s : Bool) (m : ℕ) (e : ℤ) (n : ℕ) (k : ℤ) → T (finite (narrowOf f (fin s m e))) → T (fits f (fin s n k)) → NoFartherFrom (m * up e) (down e) (narrowOf f (fin s m e)) (fin s n k)
 narrow-nearest f s m e n k t h =
     let i = narrow-fin f s m e in
