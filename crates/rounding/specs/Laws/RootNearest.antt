@@ -38,6 +38,10 @@ pub over-is : (b : Bool) → cond b 0 1 ≡ over b
 over-is true = refl
 over-is false = refl
 
+pub over-le : (b : Bool) → over b ≤ 1
+over-le true = omega arith
+over-le false = omega arith
+
 pub rootOf-is : (f : Format) (a d : ℕ) → rootOf f a d ≡ round f false (2 * isqrt (a * 4 ^ suc (low f) / d) + over (eqb (isqrt (a * 4 ^ suc (low f) / d) * isqrt (a * 4 ^ suc (low f) / d) * d) (a * 4 ^ suc (low f)))) (2 * 2 ^ suc (low f))
 unfolding rootOf
 rootOf-is f a d =
@@ -96,10 +100,6 @@ four (suc k) = let a = pow-succ' 4 k in let b = pow-succ' 2 k in let c = four k 
 
 -- ---- the theorem
 
-small : (b : Bool) → over b ≤ 1
-small true = omega arith
-small false = omega arith
-
 pub sqrt-fin : (f : Format) (s : Bool) (m : ℕ) (e : ℤ) → 0 < m → sqrtOf f (fin s m e) ≡ cond s nan (rootOf f (m * up e) (down e))
 unfolding sqrtOf
 sqrt-fin f s zero e h = absurd (lt-irrefl 0 h)
@@ -139,7 +139,7 @@ root-nearest f m e n k h t =
     record {
       below = λ o.
           scaled-below (num v * down k + n * up k * den v) (g + u) (den v * down k) l a d N L S Ne
-          (middle-below g u A l r (over b) N d refl (small b) L (near .below (order (num v) (den v) (n * up k) (down k) g u l X W L gv (h .value) o)) root);
+          (middle-below g u A l r (over b) N d refl (over-le b) L (near .below (order (num v) (den v) (n * up k) (down k) g u l X W L gv (h .value) o)) root);
       above = λ o.
           scaled-above (num v * down k + n * up k * den v) (g + u) (den v * down k) l a d N L S Ne
           (middle-above g u A l r N d b (eqb→eq (r * r * d) N) refl L (down-pos e) (near .above (order (n * up k) (down k) (num v) (den v) u g l W X L (h .value) gv o)) root);
@@ -184,7 +184,7 @@ root-finite f a d D h =
     (subst (λ (x : ℕ). a * x < 2 * B * (T′ * T′) * d) (sym (four (suc (low f))))
     (let x = mul-lt-mul-of-pos-right (subst (λ (y : ℕ). a < y * d) be h) (mul-pos (pow-pos (suc (low f))) (pow-pos (suc (low f)))) in omega arith)) in
     let rl : r < B * T′ = root-lt r (N / d) B T′ (isqrt-root (N / d) .under) q (pow-mono {i = 1} (le-trans (lit≤ tt) (emax-ge f))) in
-    let few = small b in
+    let few = over-le b in
     let al : A * l < 2 ^ (emax f + low f) * c =
     subst (λ (x : ℕ). A * l < x * c) (sym (pow-add 2 (emax f) (low f)))
     (let x : A < 2 * (B * T′) = omega arith in let y = mul-lt-mul-of-pos-right x (pow-pos (low f)) in omega arith) in
