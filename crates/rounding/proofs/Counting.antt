@@ -11,7 +11,7 @@ use lib.Ieee.Casts.{toUnsigned-lt}
 use lib.Ieee.Fits.{down-pos}
 use Rattle.rounding.specs.Laws.Order.{IsNum, le→Le, le-num-right, lt-num-left, lt-num-right, lt-trans, T-of, not-T-of, lt-of-not-le, le-of-not-lt, le-of-lt}
 use Rattle.rounding.specs.Laws.Signed.{Cross}
-use Rattle.rounding.specs.Laws.Floor.{toUnsigned-mono}
+use Rattle.rounding.specs.Laws.Count.{toUnsigned-mono}
 
 abbrev nought : Float
 nought = fin false 0 (pos 0)

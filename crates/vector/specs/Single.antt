@@ -5,7 +5,6 @@ use lib.Ieee.{Float, binary32}
 
 infixl 65 _⊕_ _⊖_
 infixl 70 _⊗_ _⊘_
-
 abbrev pub _⊕_ : Float → Float → Float
 x ⊕ y = Ieee.add binary32 x y
 

@@ -3,9 +3,26 @@ ghost use mathlib.Core.Path.{_≡_};
 ghost use lib.Ieee.{lt};
 ghost use Rattle.rounding.specs.Thresholds.{micro, tenth};
 ghost use Rattle.vector.specs.Coords.{
-    pointSub, pointAdd, pointSubVector, pointFinite, distanceOf, vectorAdd, vectorSub, vectorMul,
-    vectorNeg, vectorFinite, dotOf, crossOf, lengthSquaredOf, lengthOf, normalizeOr, normalizeOrZero,
-    isZero, turnedOf, rotateAbout, allFinite
+  pointSub,
+  pointAdd,
+  pointSubVector,
+  pointFinite,
+  distanceOf,
+  vectorAdd,
+  vectorSub,
+  vectorMul,
+  vectorNeg,
+  vectorFinite,
+  dotOf,
+  crossOf,
+  lengthSquaredOf,
+  lengthOf,
+  normalizeOr,
+  normalizeOrZero,
+  isZero,
+  turnedOf,
+  rotateAbout,
+  allFinite,
 };
 use rounding::compare;
 use rounding::extremes::is_finite32;
