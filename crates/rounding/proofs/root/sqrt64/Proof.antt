@@ -14,9 +14,6 @@ use Rattle.rounding.specs.Steps.{Rooted}
 use Rattle.rounding.proofs.Fields.{no-nan, nan-root, zero-root, inf-root, neg-root, some-bits, result-no-nan}
 use Rattle.rounding.proofs.root.sqrt64.Statement.{statement}
 use Rattle.rounding.proofs.root.sqrt64.Tie as tie
-use Rattle.rounding.proofs.root.sqrt64.Reads as reads
-use Rattle.rounding.proofs.root.sqrt64.Lts as lts
-use Rattle.rounding.proofs.root.root_bits.Reads as root-bits-reads
 
 -- what owning the float tells: the format holds it
 held : (c : tie.Start) → T (fits binary64 (c .args .x))

@@ -12,10 +12,6 @@ use Rattle.rounding.proofs.Pack.{packs-high, packs-low, closest-le, clo
 use borrow.Author.Needs.{needs}
 use Rattle.rounding.proofs.width.narrow_bits.Statement.{statement}
 use Rattle.rounding.proofs.width.narrow_bits.Tie as tie
-use Rattle.rounding.proofs.width.narrow_bits.Reads as reads
-use Rattle.rounding.proofs.width.narrow_bits.Lts as lts
-use Rattle.rounding.proofs.width.before.Reads as before-reads
-use Rattle.rounding.proofs.width.nearest_even.Reads as nearest-even-reads
 
 abbrev shift : ℕ → ℕ
 shift b = b / 2 ^ 52 - 1
