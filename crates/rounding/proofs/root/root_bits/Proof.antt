@@ -1,4 +1,4 @@
--- `rounding::root_bits` meets its contract: the fields of the pattern are those of `proofs/Fields.antt`. Assumes nothing.
+-- `rounding::root::root_bits` meets its contract: the fields of the pattern are those of `proofs/Fields.antt`. Assumes nothing.
 use mathlib.Core.Path.{_≡_, sym, ap, _∙_, subst}
 use Prim.Native.Nat.{ℕ, suc, _+_, _-_, _*_, _/_, _%_, _^_, _≤_, _<_}
 use native.Mathlib.Omega.{arith}

@@ -1,4 +1,4 @@
--- `rounding::sqrt32` meets its contract: each case is a law of `proofs/Fields.antt`, at `binary32`. Assumes nothing.
+-- `rounding::root::sqrt32` meets its contract: each case is a law of `proofs/Fields.antt`, at `binary32`. Assumes nothing.
 use borrow.Author.Needs.{needs}
 use mathlib.Core.Path.{_≡_, refl, sym, ap, _∙_, subst}
 use mathlib.Core.Logic.{_≢_}

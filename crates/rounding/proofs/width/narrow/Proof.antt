@@ -1,4 +1,4 @@
--- `rounding::narrow::narrow` meets its contract: each case is a law of `proofs/Thin.antt`. Assumes nothing.
+-- `rounding::width::narrow` meets its contract: each case is a law of `proofs/Narrowing.antt`. Assumes nothing.
 use mathlib.Core.Path.{_≡_, refl, sym, ap, _∙_, subst}
 use mathlib.Core.Bool.{Bool, true, false, not}
 use Prim.Native.Nat.{ℕ, _<_, _≤_, _+_, _-_, _*_, _%_, _^_}

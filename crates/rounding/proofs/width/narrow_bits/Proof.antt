@@ -1,4 +1,4 @@
--- `rounding::narrow::narrow_bits` meets its contract: the law of each way out is `proofs/Pack.antt`'s. Assumes nothing.
+-- `rounding::width::narrow_bits` meets its contract: the law of each way out is `proofs/Pack.antt`'s. Assumes nothing.
 use mathlib.Core.Path.{_≡_, refl, sym, ap, _∙_, subst}
 use mathlib.Core.Bool.{Bool, cond}
 use Prim.Native.Nat.{ℕ, suc, _+_, _-_, _*_, _/_, _%_, _^_, _≤_, _<_, min}

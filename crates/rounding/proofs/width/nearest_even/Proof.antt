@@ -1,4 +1,4 @@
--- `rounding::narrow::nearest_even` meets its contract. Assumes nothing.
+-- `rounding::width::nearest_even` meets its contract. Assumes nothing.
 use mathlib.Core.Path.{_≡_, refl, sym, ap, _∙_, subst}
 use Prim.Native.Nat.{ℕ, suc, _+_, _-_, _*_, _/_, _%_, _^_, _≤_, _<_}
 use native.Mathlib.Nat.{one-mul, pow-succ'}
