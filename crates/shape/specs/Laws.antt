@@ -1,0 +1,4 @@
+-- Laws about the definitions, for the proofs here and in the crates above.
+pub mod Gather
+pub mod Memory
+pub mod Lists

@@ -1,0 +1,71 @@
+-- What sound runs are, and the part of a list that a run is. Assumes nothing.
+use mathlib.Core.Path.{_≡_, refl, sym, _∙_}
+use mathlib.Core.Bool.{false, _||_}
+use mathlib.Core.List.{List, [], _∷_}
+use Prim.Native.Nat.{ℕ, zero, suc, _+_, _-_, _≤_, _<_}
+use native.Mathlib.Decide.{decLt}
+use native.Mathlib.Numerals.{sub-one}
+use native.Mathlib.Omega.{arith}
+use borrow.Author.Tests.{ltb-false, lt-ltb, le-ltb}
+use lib.Dec.{ltb}
+use lib.ListN.{length, getD, take, drop, length-drop, drop-of-length-le}
+use lib.Seq.{take-nil, take-all}
+use Rattle.shape.specs.Gather.{any}
+use Rattle.shape.specs.Lists.{startOf, endOf, lastEnd, runBad, runLong}
+use Rattle.shape.specs.Laws.Gather.{or-left, or-right, any-none}
+
+-- run k of a list of n: it is in order, after the last one, and within its list
+pub record Sound (w a : ℕ) (ws : List ℕ) (n k : ℕ) : Type 0 where
+  pub order : startOf w a ws k ≤ endOf w a ws k
+  pub after : lastEnd w a ws k ≤ startOf w a ws k
+  pub within : endOf w a ws k ≤ n
+
+pub sound : (w a : ℕ) (ws : List ℕ) (n m k : ℕ) → k < m → any (runBad w a ws n) m ≡ false → Sound w a ws n k
+unfolding runBad
+sound w a ws n m k h e =
+    let x = ltb (endOf w a ws k) (startOf w a ws k) in
+    let y = ltb (startOf w a ws k) (lastEnd w a ws k) in
+    let z = ltb n (endOf w a ws k) in
+    let b : (x || y) || z ≡ false = any-none (runBad w a ws n) k m h e in
+    record {
+      order = ltb-false (endOf w a ws k) (startOf w a ws k) (or-left x y (or-left (x || y) z b));
+      after = ltb-false (startOf w a ws k) (lastEnd w a ws k) (or-right x y (or-left (x || y) z b));
+      within = ltb-false n (endOf w a ws k) (or-right (x || y) z b);
+    }
+
+-- a run that is not past its limit
+pub short : (w a : ℕ) (ws : List ℕ) (limit m k : ℕ) → k < m → any (runLong w a ws limit) m ≡ false → endOf w a ws k - startOf w a ws k ≤ limit
+unfolding runLong
+short w a ws limit m k h e = ltb-false limit (endOf w a ws k - startOf w a ws k) (any-none (runLong w a ws limit) k m h e)
+
+-- the end of the run before, as the code reaches it
+pub last-end : (w a : ℕ) (ws : List ℕ) (k : ℕ) → (k ≡ 0 → ⊥) → endOf w a ws (k - 1) ≡ lastEnd w a ws k
+unfolding lastEnd
+last-end w a ws zero h = absurd (h refl)
+last-end w a ws (suc k) h = rw sub-one
+
+-- a length compared without a difference
+pub far : (limit s e : ℕ) → ltb (s + limit) e ≡ ltb limit (e - s)
+far limit s e =
+    elim (decLt (s + limit) e) [
+      | yes p ↦ lt-ltb (s + limit) e p ∙ sym (lt-ltb limit (e - s) (omega arith))
+      | no p ↦ le-ltb (s + limit) e (omega arith) ∙ sym (le-ltb limit (e - s) (omega arith))
+    ]
+
+-- ---- the part of a list from a to e
+
+module _ {A : Type 0} where
+  pub none : (a e : ℕ) (xs : List A) → e ≤ a → take (e - a) (drop a xs) ≡ []
+  none a e xs h = let z : e - a ≡ 0 = omega arith in rw z
+
+  pub past : (a e : ℕ) (xs : List A) → length xs ≤ a → take (e - a) (drop a xs) ≡ []
+  past a e xs h = rw (drop-of-length-le xs h) (take-nil (e - a))
+
+  pub cut : (a e : ℕ) (xs : List A) → length xs < e → take (length xs - a) (drop a xs) ≡ take (e - a) (drop a xs)
+  cut a e xs h = take-all (length xs - a) (drop a xs) (simp length-drop (omega arith)) ∙ sym (take-all (e - a) (drop a xs) (simp length-drop (omega arith)))
+
+-- an element within a list is the same whatever stands for what is past the end
+pub getD-any {ℓ} : {A : Type ℓ} (l : List A) (i : ℕ) (d e : A) → i < length l → getD l i d ≡ getD l i e
+getD-any [] i d e h = absurd (omega arith)
+getD-any (x ∷ xs) zero d e h = refl
+getD-any (x ∷ xs) (suc i) d e h = getD-any xs i d e (omega arith)

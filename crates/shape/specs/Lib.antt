@@ -1,0 +1,6 @@
+-- The definitions, a file for each section of document 01, and the laws about them.
+pub mod Gather
+pub mod Memory
+pub mod Refusal
+pub mod Lists
+pub mod Laws

@@ -1,0 +1,3 @@
+// What is made of lanes, boundaries and elevation grids, and when a call is turned back.
+pub mod lists;
+pub mod refusal;

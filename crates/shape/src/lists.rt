@@ -1,0 +1,200 @@
+// Lists as they are lent: flat lists of coordinates and banks, lists of records, and the runs that
+// records have of other lists. The accessors take any place, so that what stands above them needs no
+// proof about indices; the checks of lists stand here alone.
+ghost use mathlib.Core.Path.{_≡_};
+ghost use mathlib.Core.Bool.{_||_, not};
+ghost use Prim.Native.Nat.{_+_, _-_, _*_, _%_, _^_, _≤_, _<_};
+ghost use lib.Dec.{ltb, eqb};
+ghost use lib.ListN.{length, getD, take, drop};
+ghost use Rattle.shape.specs.Gather.{any};
+ghost use Rattle.shape.specs.Refusal.{found};
+ghost use Rattle.shape.specs.Lists.{longer, uneven, wordOf, lastEnd, runBad, runLong, pointAt, vectorAt, meshFault, meshLists};
+use crate::refusal::Check;
+use crate::refusal::Refusal;
+use vector::coords::Point;
+use vector::coords::Vector;
+
+// ---- elements
+
+// The word at a place of a list, 0 past its end.
+pub fn word_at(xs: &[u32], i: usize) -> usize
+    ensures { λ r. ⌜ (r ≡ getD (now (xs .entry)) i 0) × (r < 2 ^ 32) ⌝ }
+{
+    if i < xs.len() { xs[i] as usize } else { 0 }
+}
+
+// Point i of a list of coordinates; the origin where the list does not hold it whole.
+pub fn point_at(xs: &[f32], i: usize) -> Point
+    requires { ⌜ i < 2 ^ 62 ⌝ }
+    ensures { λ r. ⌜ r ≡ pointAt (now (xs .entry)) i ⌝ }
+{
+    let at = 3 * i;
+    if at + 2 < xs.len() {
+        return Point {
+            x: xs[at],
+            y: xs[at + 1],
+            z: xs[at + 2],
+        };
+    }
+    Point {
+        x: 0.0,
+        y: 0.0,
+        z: 0.0,
+    }
+}
+
+// Vector i of a list of coordinates; zero where the list does not hold it whole.
+pub fn vector_at(xs: &[f32], i: usize) -> Vector
+    requires { ⌜ i < 2 ^ 62 ⌝ }
+    ensures { λ r. ⌜ r ≡ vectorAt (now (xs .entry)) i ⌝ }
+{
+    let at = 3 * i;
+    if at + 2 < xs.len() {
+        return Vector {
+            x: xs[at],
+            y: xs[at + 1],
+            z: xs[at + 2],
+        };
+    }
+    Vector::ZERO
+}
+
+// The single at a place of a list, `other` past its end.
+pub fn single_or(xs: &[f32], i: usize, other: f32) -> f32
+    ensures { λ r. ⌜ r ≡ getD (now (xs .entry)) i other ⌝ }
+{
+    if i < xs.len() { xs[i] } else { other }
+}
+
+// ---- parts
+
+// The part of a list from a to e, as far as there is one.
+pub fn part(xs: &[f32], a: usize, e: usize) -> &[f32]
+    ensures { λ r. ⌜ now r ≡ take (e - a) (drop a (now (xs .entry))) ⌝ }
+{
+    let n = xs.len();
+    if e <= a {
+        return &xs[n..n];
+    }
+    if n <= a {
+        return &xs[n..n];
+    }
+    if n < e {
+        return &xs[a..n];
+    }
+    &xs[a..e]
+}
+
+// ---- records and their runs
+
+fn either(a: bool, b: bool) -> bool
+    ensures { λ r. ⌜ r ≡ (a || b) ⌝ }
+{
+    if a { true } else { b }
+}
+
+// Word j of record k, in a list of records of `width` words.
+pub fn record_word(ws: &[u32], width: usize, k: usize, j: usize) -> usize
+    requires { ⌜ (width < 16) × (k < 2 ^ 58) × (j < 16) ⌝ }
+    ensures { λ r. ⌜ (r ≡ wordOf width (now (ws .entry)) k j) × (r < 2 ^ 32) ⌝ }
+{
+    word_at(ws, width * k + j)
+}
+
+// Where the run of the record before k ended, 0 for the first record. A run's start is word `a` of its
+// record and its end the word after it.
+fn last_end(ws: &[u32], width: usize, a: usize, k: usize) -> usize
+    requires { ⌜ (width < 16) × (k < 2 ^ 58) × (a < 15) ⌝ }
+    ensures { λ r. ⌜ r ≡ lastEnd width a (now (ws .entry)) k ⌝ }
+{
+    if k == 0 {
+        return 0;
+    }
+    record_word(ws, width, k - 1, a + 1)
+}
+
+// Is the run of record k ragged, for a list of n elements?
+fn run_bad(ws: &[u32], width: usize, a: usize, n: usize, k: usize) -> bool
+    requires { ⌜ (width < 16) × (k < 2 ^ 58) × (a < 15) ⌝ }
+    ensures { λ r. ⌜ r ≡ runBad width a (now (ws .entry)) n k ⌝ }
+{
+    let start = record_word(ws, width, k, a);
+    let end = record_word(ws, width, k, a + 1);
+    let last = last_end(ws, width, a, k);
+    either(either(end < start, start < last), n < end)
+}
+
+// Is the run of record k longer than the limit?
+fn run_long(ws: &[u32], width: usize, a: usize, limit: usize, k: usize) -> bool
+    requires { ⌜ (width < 16) × (k < 2 ^ 58) × (a < 15) × (limit < 2 ^ 32) ⌝ }
+    ensures { λ r. ⌜ r ≡ runLong width a (now (ws .entry)) limit k ⌝ }
+{
+    let start = record_word(ws, width, k, a);
+    let end = record_word(ws, width, k, a + 1);
+    start + limit < end
+}
+
+// Is any of the first m runs ragged?
+pub fn any_bad(ws: &[u32], width: usize, a: usize, n: usize, m: usize) -> bool
+    requires { ⌜ (width < 16) × (a < 15) × (m < 2 ^ 58) ⌝ }
+    ensures { λ r. ⌜ r ≡ any (runBad width a (now (ws .entry)) n) m ⌝ }
+{
+    let mut found = false;
+    let mut k: usize = 0;
+    while k < m {
+        found = either(found, run_bad(ws, width, a, n, k));
+        k += 1;
+    }
+    found
+}
+
+// Is any of the first m runs longer than the limit?
+pub fn any_long(ws: &[u32], width: usize, a: usize, limit: usize, m: usize) -> bool
+    requires { ⌜ (width < 16) × (a < 15) × (limit < 2 ^ 32) × (m < 2 ^ 58) ⌝ }
+    ensures { λ r. ⌜ r ≡ any (runLong width a (now (ws .entry)) limit) m ⌝ }
+{
+    let mut found = false;
+    let mut k: usize = 0;
+    while k < m {
+        found = either(found, run_long(ws, width, a, limit, k));
+        k += 1;
+    }
+    found
+}
+
+// ---- meshes
+
+// Why the four lists of a mesh are turned back, if they are. Every call that takes a mesh asks this.
+pub fn mesh_fault(vertices: &[f32], normals: &[f32], indices: &[u32], spans: &[u32]) -> Check
+    ensures { λ r. ⌜ found r ≡ meshFault (meshLists (now (vertices .entry)) (now (normals .entry)) (now (indices .entry)) (now (spans .entry))) ⌝ }
+{
+    if 3 * 65536 < vertices.len() {
+        return Check::Faulty(Refusal::Oversize(65536));
+    }
+    if 3 * 65536 < normals.len() {
+        return Check::Faulty(Refusal::Oversize(65536));
+    }
+    if 196608 < indices.len() {
+        return Check::Faulty(Refusal::Oversize(196608));
+    }
+    if 5 * 1024 < spans.len() {
+        return Check::Faulty(Refusal::Oversize(1024));
+    }
+    if vertices.len() % 3 != 0 {
+        return Check::Faulty(Refusal::Ragged(0));
+    }
+    if normals.len() % 3 != 0 {
+        return Check::Faulty(Refusal::Ragged(1));
+    }
+    if spans.len() % 5 != 0 {
+        return Check::Faulty(Refusal::Ragged(3));
+    }
+    let m = spans.len() / 5;
+    if any_bad(spans, 5, 1, vertices.len() / 3, m) {
+        return Check::Faulty(Refusal::Ragged(3));
+    }
+    if any_bad(spans, 5, 3, indices.len(), m) {
+        return Check::Faulty(Refusal::Ragged(3));
+    }
+    Check::Fine
+}
