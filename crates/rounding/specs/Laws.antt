@@ -18,3 +18,4 @@ pub mod RootNearest
 pub mod RootOrder
 pub mod RootTest
 pub mod Thresholds
+pub mod Least

@@ -1,28 +1,25 @@
 -- Laws about lengths and directions, for the crates above to cite. Assumes nothing.
+pub mod Direction
 use mathlib.Core.Path.{_≡_, refl, sym, ap, _∙_, subst}
 use mathlib.Core.Logic.{_⊎_, inl, inr}
 use Prim.Native.Nat.{_*_}
-use mathlib.Core.Bool.{Bool, true, false, not, _&&_, cond}
+use mathlib.Core.Bool.{Bool, true, false, _&&_, cond}
 use native.Mathlib.Omega.{arith}
 use lib.Dec.{T}
-use lib.IntN.{pos}
-use lib.Ieee.{Float, nan, inf, fin, Format, binary32, binary64, up, down, unlike, round, add, mul, lt, le, ofBits}
+use lib.Ieee.{Float, nan, inf, fin, Format, binary32, up, down, unlike, add, mul, lt, le}
 use lib.Ieee.Scale.{finite}
 use Rattle.rounding.specs.Root.{sqrtOf}
-use Rattle.rounding.specs.Laws.Order.{IsNum, Le, Le→le}
-use Rattle.rounding.specs.Laws.Rounding.{Signed, round-signed}
-use Rattle.rounding.specs.Laws.Sums.{add-mono, add-num-left, add-num-right}
+use Rattle.rounding.specs.Laws.Order.{IsNum, Le→le}
+use Rattle.rounding.specs.Laws.Rounding.{round-signed}
+use Rattle.rounding.specs.Laws.Sums.{add-num-left, add-num-right}
+pub use Rattle.rounding.specs.Laws.Least.{sum-least}
+use Rattle.rounding.specs.Laws.Least.{signed-least}
 use Rattle.rounding.specs.Laws.RootOrder.{nought, sqrt-mono}
 use Rattle.vector.specs.Single.{_⊘_, 0f, 1f}
-use Rattle.vector.specs.Coords.{dotOf, lengthSquaredOf, lengthOf, vectorMul, normalizeOr}
+use Rattle.vector.specs.Coords.{lengthSquaredOf, lengthOf, vectorMul, normalizeOr}
 use Rattle.vector.specs.declared.coords.Vector.{Vector}
 
 -- ---- a square is not negative, nor is a sum of squares, nor is a length; or it is a NaN
-
-signed-least : (x : Float) → Signed false x → T (le nought x)
-signed-least nan h = absurd h
-signed-least (inf s) h = subst (λ (t : Bool). T (le nought (inf t))) (sym h) (Le→le nought (inf false) tt)
-signed-least (fin s m e) h = subst (λ (t : Bool). T (le nought (fin t m e))) (sym h) (Le→le nought (fin false m e) (omega arith))
 
 like : (s : Bool) → unlike s s ≡ false
 like true = refl
@@ -33,14 +30,6 @@ unfolding mul
 square-least f nan h = absurd h
 square-least f (inf s) h = subst (λ (t : Bool). T (le nought (inf t))) (sym (like s)) (Le→le nought (inf false) tt)
 square-least f (fin s m e) h = rw (like s) (signed-least _ (round-signed f false (m * up e * (m * up e)) (down e * down e)))
-
-no-sum : (f : Format) → add f nought nought ≡ nought
-unfolding add
-no-sum binary32 = refl
-no-sum binary64 = refl
-
-pub sum-least : (f : Format) (x y : Float) → T (le nought x) → T (le nought y) → IsNum (add f x y) → T (le nought (add f x y))
-sum-least f x y h k n = subst (λ (z : Float). T (le z (add f x y))) (no-sum f) (add-mono f nought x nought y h k (rw (no-sum f) tt) n)
 
 pub length-squared-least : (a : Vector) → IsNum (lengthSquaredOf a) → T (le nought (lengthSquaredOf a))
 unfolding lengthSquaredOf
