@@ -16,7 +16,7 @@ setWord xs i w = set xs i w
 -- the word of four bytes from byte k on, the low byte first
 unfoldable pub fourBytes : List ℕ → ℕ → ℕ
 fourBytes bs k =
-  (getD bs k 0 + getD bs (k + 1) 0 * 256) + (getD bs (k + 2) 0 + getD bs (k + 3) 0 * 256) * 65536
+    (getD bs k 0 + getD bs (k + 1) 0 * 256) + (getD bs (k + 2) 0 + getD bs (k + 3) 0 * 256) * 65536
 
 -- word i of the bytes
 unfoldable pub wordAt : List ℕ → ℕ → ℕ

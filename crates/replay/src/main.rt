@@ -5,13 +5,24 @@
 mod rounding_ops;
 mod stream;
 mod text;
+
 ghost use mathlib.Core.Path.{_≡_};
 ghost use mathlib.Core.Bool.{true};
 ghost use Prim.Native.Nat.{ℕ, _<_};
 ghost use Rattle.replay.specs.Words.{getWord};
-use rounding_ops::{may_panic, takes, work};
-use stream::{Place, list, next, start, word};
-use text::{Tally, block_line, both, last_line, nothing};
+use rounding_ops::may_panic;
+use rounding_ops::takes;
+use rounding_ops::work;
+use stream::Place;
+use stream::list;
+use stream::next;
+use stream::start;
+use stream::word;
+use text::Tally;
+use text::block_line;
+use text::both;
+use text::last_line;
+use text::nothing;
 
 // How a case came out. The list goes on unless it is broken: it breaks off, or the case has more words
 // than there is room for.
@@ -22,12 +33,23 @@ enum Verdict {
     Broken,
 }
 
-struct Case {
+struct Worked {
     verdict: Verdict,
     place: Place,
 }
 
-struct Block {
+// What is known after some cases: whether the list is broken there, their tally, how many stand before
+// the first that differs, and where the reading stands.
+struct Run {
+    broken: bool,
+    tally: Tally,
+    first: u64,
+    place: Place,
+}
+
+// What is known after some blocks.
+struct Progress {
+    more: bool,
     broken: bool,
     tally: Tally,
     place: Place,
@@ -65,7 +87,14 @@ fn judge(op: u32, made: &[u32], n: usize, wanted: &[u32], count: usize) -> Verdi
 
 // Works one case. An operation that is not known, and a count of words that is not the operation's, is
 // a difference.
-fn answer(op: u32, given: &[u32], size: usize, made: &mut [u32], wanted: &[u32], count: usize) -> Verdict {
+fn answer(
+    op: u32,
+    given: &[u32],
+    size: usize,
+    made: &mut [u32],
+    wanted: &[u32],
+    count: usize,
+) -> Verdict {
     if size == 0 {
         return Verdict::Differs;
     }
@@ -76,27 +105,64 @@ fn answer(op: u32, given: &[u32], size: usize, made: &mut [u32], wanted: &[u32],
     judge(op, made, n, wanted, count)
 }
 
-fn case(op: u32, bytes: &mut [u8], given: &mut [u32], wanted: &mut [u32], made: &mut [u32], from: Place) -> Case {
+fn case(
+    op: u32,
+    bytes: &mut [u8],
+    given: &mut [u32],
+    wanted: &mut [u32],
+    made: &mut [u32],
+    from: Place,
+) -> Worked {
     let input = list(bytes, given, from);
     let place = input.place;
     if !input.whole {
-        return Case { verdict: Verdict::Broken, place: place };
+        return Worked {
+            verdict: Verdict::Broken,
+            place: place,
+        };
     }
     let output = list(bytes, wanted, place);
     let after = output.place;
     if !output.whole {
-        return Case { verdict: Verdict::Broken, place: after };
+        return Worked {
+            verdict: Verdict::Broken,
+            place: after,
+        };
     }
     let verdict = answer(op, given, input.count, made, wanted, output.count);
-    Case { verdict: verdict, place: after }
+    Worked {
+        verdict: verdict,
+        place: after,
+    }
 }
 
 // One case more in a tally.
 fn counted(t: Tally, verdict: Verdict) -> Tally {
     match verdict {
-        Verdict::Same => both(t, Tally { cases: 1, differ: 0, skipped: 0 }),
-        Verdict::Differs => both(t, Tally { cases: 1, differ: 1, skipped: 0 }),
-        Verdict::Skipped => both(t, Tally { cases: 1, differ: 0, skipped: 1 }),
+        Verdict::Same => both(
+            t,
+            Tally {
+                cases: 1,
+                differ: 0,
+                skipped: 0,
+            },
+        ),
+        Verdict::Differs => both(
+            t,
+            Tally {
+                cases: 1,
+                differ: 1,
+                skipped: 0,
+            },
+        ),
+        Verdict::Skipped => both(
+            t,
+            Tally {
+                cases: 1,
+                differ: 0,
+                skipped: 1,
+            },
+        ),
         Verdict::Broken => t,
     }
 }
@@ -108,65 +174,138 @@ fn is_broken(verdict: Verdict) -> bool {
     }
 }
 
-// The n cases of an operation, and the line for them.
-fn cases(op: u32, n: u32, bytes: &mut [u8], given: &mut [u32], wanted: &mut [u32], made: &mut [u32], from: Place) -> Block {
-    let mut place = from;
-    let mut tally = nothing();
-    let mut first: u64 = 0;
-    let mut broken = false;
+// One case more in a run.
+fn turn(
+    op: u32,
+    bytes: &mut [u8],
+    given: &mut [u32],
+    wanted: &mut [u32],
+    made: &mut [u32],
+    run: Run,
+) -> Run {
+    let from = run.place;
+    let before = run.tally;
+    let worked = case(op, bytes, given, wanted, made, from);
+    let place = worked.place;
+    let verdict = worked.verdict;
+    let tally = counted(before, verdict);
+    let first = if tally.differ == 0 {
+        tally.cases
+    } else {
+        run.first
+    };
+    Run {
+        broken: is_broken(verdict),
+        tally: tally,
+        first: first,
+        place: place,
+    }
+}
+
+// The n cases of an operation.
+fn cases(
+    op: u32,
+    n: u32,
+    bytes: &mut [u8],
+    given: &mut [u32],
+    wanted: &mut [u32],
+    made: &mut [u32],
+    from: Place,
+) -> Run {
+    let mut run = Run {
+        broken: false,
+        tally: nothing(),
+        first: 0,
+        place: from,
+    };
     let mut i: u32 = 0;
     while i < n {
-        let now = case(op, bytes, given, wanted, made, place);
-        place = now.place;
-        let verdict = now.verdict;
-        if is_broken(verdict) {
-            broken = true;
-            break;
-        }
-        tally = counted(tally, verdict);
-        if tally.differ == 0 {
-            first = tally.cases;
+        run = turn(op, bytes, given, wanted, made, run);
+        if run.broken {
+            return run;
         }
         i += 1;
     }
-    block_line(op, tally, first);
-    Block { broken: broken, tally: tally, place: place }
+    run
 }
 
-// The block of the operation `op`, whose number is read already.
-fn block(op: u32, bytes: &mut [u8], given: &mut [u32], wanted: &mut [u32], made: &mut [u32], from: Place) -> Block {
+// The line of a block, and its tally added to that of the blocks before it.
+fn added(op: u32, run: Run, all: Tally) -> Progress {
+    let tally = run.tally;
+    let place = run.place;
+    block_line(op, tally, run.first);
+    Progress {
+        more: !run.broken,
+        broken: run.broken,
+        tally: both(all, tally),
+        place: place,
+    }
+}
+
+// The block of the operation `op`, whose number is read.
+fn block(
+    op: u32,
+    bytes: &mut [u8],
+    given: &mut [u32],
+    wanted: &mut [u32],
+    made: &mut [u32],
+    from: Place,
+    all: Tally,
+) -> Progress {
+    let size = next(bytes, from);
+    let place = size.place;
+    if !size.found {
+        return Progress {
+            more: false,
+            broken: true,
+            tally: all,
+            place: place,
+        };
+    }
+    let run = cases(op, size.word, bytes, given, wanted, made, place);
+    added(op, run, all)
+}
+
+// One block more, if there is one. A list ends well between two blocks, with no bytes left over.
+fn advance(
+    bytes: &mut [u8],
+    given: &mut [u32],
+    wanted: &mut [u32],
+    made: &mut [u32],
+    from: Place,
+    all: Tally,
+) -> Progress {
     let head = next(bytes, from);
     let place = head.place;
     if !head.found {
-        return Block { broken: true, tally: nothing(), place: place };
+        return Progress {
+            more: false,
+            broken: place.spare > 0,
+            tally: all,
+            place: place,
+        };
     }
-    cases(op, head.word, bytes, given, wanted, made, place)
+    block(head.word, bytes, given, wanted, made, place, all)
 }
 
 // Block after block. A proved loop has to end, and nothing says that the input does, so the turns are
 // counted down from a number that no run uses up.
-fn replay(bytes: &mut [u8], given: &mut [u32], wanted: &mut [u32], made: &mut [u32]) {
-    let mut place = start();
-    let mut all = nothing();
-    let mut broken = false;
+fn replay(bytes: &mut [u8], given: &mut [u32], wanted: &mut [u32], made: &mut [u32]) -> Progress {
+    let mut step = Progress {
+        more: true,
+        broken: false,
+        tally: nothing(),
+        place: start(),
+    };
     let mut turns = u64::MAX;
     while turns > 0 {
-        let head = next(bytes, place);
-        place = head.place;
-        if !head.found {
-            broken = place.spare > 0;
-            break;
-        }
-        let done = block(head.word, bytes, given, wanted, made, place);
-        place = done.place;
-        all = both(all, done.tally);
-        if done.broken {
-            broken = true;
-            break;
+        step = advance(bytes, given, wanted, made, step.place, step.tally);
+        if !step.more {
+            return step;
         }
         turns -= 1;
     }
-    last_line(all, broken, place.read);
+    step
 }
 
 fn main() {
@@ -174,5 +313,7 @@ fn main() {
     let mut given = [0u32; 32768];
     let mut wanted = [0u32; 32768];
     let mut made = [0u32; 32768];
-    replay(&mut bytes, &mut given, &mut wanted, &mut made);
+    let end = replay(&mut bytes, &mut given, &mut wanted, &mut made);
+    let place = end.place;
+    last_line(end.tally, end.broken, place.read);
 }

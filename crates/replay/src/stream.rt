@@ -26,7 +26,12 @@ pub struct Taken {
 }
 
 pub fn start() -> Place {
-    Place { at: 0, held: 0, spare: 0, read: 0 }
+    Place {
+        at: 0,
+        held: 0,
+        spare: 0,
+        read: 0,
+    }
 }
 
 fn wide(x: u8) -> u32
@@ -70,17 +75,44 @@ pub fn next(bytes: &mut [u8], p: Place) -> Step {
     let read = std::num::wrapping_add_u64(p.read, 1);
     if p.at < p.held {
         let word = word_at(bytes, p.at);
-        let place = Place { at: p.at + 1, held: p.held, spare: 0, read: read };
-        return Step { found: true, word: word, place: place };
+        let place = Place {
+            at: p.at + 1,
+            held: p.held,
+            spare: 0,
+            read: read,
+        };
+        return Step {
+            found: true,
+            word: word,
+            place: place,
+        };
     }
     let got = io::read_full(0, bytes);
     if got < 4 {
-        let place = Place { at: 0, held: 0, spare: got, read: p.read };
-        return Step { found: false, word: 0, place: place };
+        let place = Place {
+            at: 0,
+            held: 0,
+            spare: got,
+            read: p.read,
+        };
+        return Step {
+            found: false,
+            word: 0,
+            place: place,
+        };
     }
     let word = word_at(bytes, 0);
-    let place = Place { at: 1, held: got / 4, spare: got % 4, read: read };
-    Step { found: true, word: word, place: place }
+    let place = Place {
+        at: 1,
+        held: got / 4,
+        spare: got % 4,
+        read: read,
+    };
+    Step {
+        found: true,
+        word: word,
+        place: place,
+    }
 }
 
 // Reads n words to the start of `list`.
@@ -91,12 +123,20 @@ fn words(bytes: &mut [u8], list: &mut [u32], n: usize, from: Place) -> Taken {
         let step = next(bytes, place);
         place = step.place;
         if !step.found {
-            return Taken { whole: false, count: i, place: place };
+            return Taken {
+                whole: false,
+                count: i,
+                place: place,
+            };
         }
         put(list, i, step.word);
         i += 1;
     }
-    Taken { whole: true, count: n, place: place }
+    Taken {
+        whole: true,
+        count: n,
+        place: place,
+    }
 }
 
 // Reads a count and that many words to the start of `list`.
@@ -105,10 +145,18 @@ pub fn list(bytes: &mut [u8], list: &mut [u32], from: Place) -> Taken {
     let place = step.place;
     let n = step.word as usize;
     if !step.found {
-        return Taken { whole: false, count: 0, place: place };
+        return Taken {
+            whole: false,
+            count: 0,
+            place: place,
+        };
     }
     if n > list.len() {
-        return Taken { whole: false, count: 0, place: place };
+        return Taken {
+            whole: false,
+            count: 0,
+            place: place,
+        };
     }
     words(bytes, list, n, place)
 }

@@ -43,7 +43,8 @@ fn name(op: u32) {
         111 => io::write_all(out, b"hypot_above_milli"),
         112 => io::write_all(out, b"hypot_at_most_milli"),
         _ => io::write_all(out, b"unknown operation"),
-    };
+    }
+    ;
 }
 
 // The numbers that a line gives.
@@ -54,7 +55,11 @@ pub struct Tally {
 }
 
 pub fn nothing() -> Tally {
-    Tally { cases: 0, differ: 0, skipped: 0 }
+    Tally {
+        cases: 0,
+        differ: 0,
+        skipped: 0,
+    }
 }
 
 // Both tallies in one. The numbers are counts of what was read, so that none comes near to wrapping.

@@ -3,7 +3,8 @@
 ghost use mathlib.Core.Path.{_≡_};
 ghost use Rattle.rounding.specs.Hypot.{hypotOf, squaresOf};
 use crate::root::sqrt64;
-use crate::width::{narrow, widen};
+use crate::width::narrow;
+use crate::width::widen;
 
 // a * a + b * b in double. Both squares are exact there, and only the sum rounds.
 pub fn squares(a: f32, b: f32) -> f64
