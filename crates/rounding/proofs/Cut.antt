@@ -16,46 +16,9 @@ use lib.Ieee.Nearest.{div-same}
 use lib.Ieee.Positive.{first-pos}
 use Rattle.rounding.specs.Steps.{Wholes, limitOf, sizeOf, stepOf, wayOf}
 use Rattle.rounding.specs.Whole.{Way, toward, half, away, moves, one-if, wholeBy}
+use Rattle.rounding.specs.Laws.Basics.{leb-same, div-at, emax-ge, ones-ge}
+use Rattle.rounding.specs.Laws.Whole.{wholeBy-same, wholeBy-is, size-one}
 use Rattle.rounding.proofs.Pattern.{twice, bits-of}
-
--- ---- equal fractions go the same way
-
-same-test : (a b : Bool) → (T a → T b) → (T b → T a) → a ≡ b
-same-test true true p q = refl
-same-test true false p q = absurd (p tt)
-same-test false true p q = absurd (q tt)
-same-test false false p q = refl
-
-leb-same : (a b c d : ℕ) → (a ≤ b → c ≤ d) → (c ≤ d → a ≤ b) → leb a b ≡ leb c d
-leb-same a b c d p q = same-test (leb a b) (leb c d) (λ t. le→leb c d (p (leb→le a b t))) (λ t. le→leb a b (q (leb→le c d t)))
-
--- r / b is t / d
-half-then : (r b t d : ℕ) → 0 < b → r * d ≡ t * b → b ≤ 2 * r → d ≤ 2 * t
-half-then r b t d B e h = le-of-mul-le-mul-right (let x = mul-le-mul-right d h in omega arith) B
-
-some-then : (r b t d : ℕ) → 0 < d → r * d ≡ t * b → 1 ≤ r → 1 ≤ t
-some-then r b t d D e h = first-pos t b (lt-of-lt-of-le (mul-pos h D) (le-of-eq e))
-
-moves-same : (w : Way) (r b t d : ℕ) → 0 < b → 0 < d → r * d ≡ t * b → moves w r b ≡ moves w t d
-moves-same toward r b t d B D e = refl
-moves-same half r b t d B D e = leb-same b (2 * r) d (2 * t) (half-then r b t d B e) (half-then t d r b D (sym e))
-moves-same away r b t d B D e = leb-same 1 r 1 t (some-then r b t d D e) (some-then t d r b B (sym e))
-
-rest-same : (a b c d : ℕ) → 0 < b → 0 < d → a * d ≡ c * b → a % b * d ≡ c % d * b
-rest-same a b c d B D e =
-    let i : a / b ≡ c / d = div-same a b c d B D e in
-    let x = ap (λ (z : ℕ). z * d) (div-add-mod' a b) in
-    let y = ap (λ (z : ℕ). z * b) (div-add-mod' c d) in
-    let z = ap (λ (z : ℕ). z * (b * d)) i in
-    omega arith
-
-pub wholeBy-same : (f : Format) (s : Bool) (w : Way) (a b c d : ℕ) → 0 < b → 0 < d → a * d ≡ c * b → wholeBy f s w a b ≡ wholeBy f s w c d
-unfolding wholeBy
-wholeBy-same f s w a b c d B D e = ap₂ (λ (x : ℕ) (y : Bool). round f s (x + one-if y) 1) (div-same a b c d B D e) (moves-same w (a % b) b (c % d) d B D (rest-same a b c d B D e))
-
-wholeBy-is : (f : Format) (s : Bool) (w : Way) (a d : ℕ) → wholeBy f s w a d ≡ round f s (a / d + one-if (moves w (a % d) d)) 1
-unfolding wholeBy
-wholeBy-is f s w a d = refl
 
 -- ---- a whole number K that is q * 2 ^ h of the format's smallest values
 
@@ -78,9 +41,6 @@ pub whole-bits : (f : Format) (s : Bool) (K q h : ℕ) → (h ≡ 0) ⊎ (hid f 
 whole-bits f s K q h o a b e = bits-of f s (round f s K 1) q h (round-whole f s K q h a b e) o a
 
 -- ---- adding the step
-
-div-at : (x d k r : ℕ) → x ≡ k * d + r → r < d → x / d ≡ k
-div-at x d k r e h = ap (λ (y : ℕ). y / d) e ∙ digits-div k h
 
 pub steps : (w : Way) (a d : ℕ) → 2 ≤ d → d % 2 ≡ 0 → (a + stepOf w d) / d ≡ a / d + one-if (moves w (a % d) d)
 steps toward a d D e = ap (λ (x : ℕ). x / d) (add-zero a) ∙ sym (add-zero (a / d))
@@ -151,27 +111,14 @@ parts f b = go (b / hid f) refl
 
 -- ---- no digits below one: nothing changes
 
-nothing-moves : (w : Way) → moves w 0 1 ≡ false
-nothing-moves toward = refl
-nothing-moves half = refl
-nothing-moves away = refl
-
 whole-by-one : (f : Format) (s : Bool) (w : Way) (a : ℕ) → wholeBy f s w a 1 ≡ round f s a 1
-whole-by-one f s w a =
-    wholeBy-is f s w a 1
-    ∙ ap (λ (r : ℕ). round f s (a / 1 + one-if (moves w r 1)) 1) (mod-one a)
-    ∙ ap (λ (b : Bool). round f s (a / 1 + one-if b) 1) (nothing-moves w)
-    ∙ ap (λ (x : ℕ). round f s x 1) (add-zero (a / 1) ∙ div-one a)
+whole-by-one f s w a = wholeBy-is f s w a 1 ∙ ap (λ (x : ℕ). round f s x 1) (size-one w a)
 
 pub expo-lt : (f : Format) (b : ℕ) → b < ones f * hid f → expo f b + 2 ≤ ones f
 expo-lt f b h =
     let x : b / hid f < ones f = div-lt-iff-lt-mul (pow-pos (prec f - 1)) .1 h in
-    let l : 3 ≤ ones f = big f in
+    let l : 3 ≤ ones f = ones-ge f in
     omega arith
-  where
-    big : (f : Format) → 3 ≤ ones f
-    big binary32 = lit≤ tt
-    big binary64 = lit≤ tt
 
 fine : (f : Format) (q h : ℕ) → q ≤ 2 ^ prec f → h + 2 < ones f → q * 2 ^ h < 2 ^ (low f + suc (emax f))
 fine f q h a b =
@@ -274,16 +221,12 @@ mod-of-lt a d h = mod-eq-of-lt h
 div-of-lt : (a d : ℕ) → a < d → a / d ≡ 0
 div-of-lt a d h = div-at a d 0 a (omega arith) h
 
-big : (f : Format) → 3 ≤ emax f
-big binary32 = lit≤ tt
-big binary64 = lit≤ tt
-
 under-one : (f : Format) (b : ℕ) → b / hid f < emax f → sizeOf (prec f) b < 2 ^ low f
 under-one f b l =
     let p = parts f b in
     let h = expo f b in
     let t = two f in
-    let r = big f in
+    let r = emax-ge f in
     let i : prec f + h ≤ low f = omega arith in
     lt-of-lt-of-le (mul-lt-mul-of-pos-right (p .high) (pow-pos h)) (le-trans (le-of-eq (sym (pow-add 2 (prec f) h))) (pow-mono i))
 
@@ -339,7 +282,7 @@ moves-at f half b l = leb-same (2 ^ low f) (2 * sizeOf (prec f) b) ((emax f - 1)
     less n =
         let x : b / hid f < emax f - 1 = div-lt-iff-lt-mul (pow-pos (prec f - 1)) .1 n in
         let t = two f in
-        let g = big f in
+        let g = emax-ge f in
         let i : 1 + (prec f + expo f b) ≤ low f = omega arith in
         let a : sizeOf (prec f) b < 2 ^ prec f * 2 ^ expo f b = mul-lt-mul-of-pos-right (parts f b .high) (pow-pos (expo f b)) in
         let c = pow-add 2 1 (prec f + expo f b) in
@@ -350,7 +293,7 @@ moves-at f half b l = leb-same (2 ^ low f) (2 * sizeOf (prec f) b) ((emax f - 1)
     more : emax f - 1 ≤ b / hid f → 2 ^ low f ≤ 2 * sizeOf (prec f) b
     more x =
         let t = two f in
-        let g = big f in
+        let g = emax-ge f in
         let n : hid f ≤ digs f b = normal f b (parts f b) (omega arith) in
         let i : low f ≡ 1 + (prec f - 1 + expo f b) = omega arith in
         let a : hid f * 2 ^ expo f b ≤ sizeOf (prec f) b = mul-le-mul-right (2 ^ expo f b) n in

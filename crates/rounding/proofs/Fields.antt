@@ -20,15 +20,10 @@ use lib.Ieee.Positive.{first-pos}
 use lib.Ieee.Compare.{differs-from-itself, nan-differs}
 use Rattle.rounding.specs.Root.{isqrt, rootOf, sqrtOf}
 use Rattle.rounding.specs.Steps.{Shaped, Rooted}
-use Rattle.rounding.specs.Laws.RootNearest.{over, rootOf-is}
+use Rattle.rounding.specs.Laws.Basics.{same-test}
+use Rattle.rounding.specs.Laws.RootNearest.{over, rootOf-is, sqrt-fin}
 
 -- ---- equal fractions have the same root
-
-same-test : (a b : Bool) → (T a → T b) → (T b → T a) → a ≡ b
-same-test true true p q = refl
-same-test true false p q = absurd (p tt)
-same-test false true p q = absurd (q tt)
-same-test false false p q = refl
 
 -- a / b is c / d, so n is a / b where it is c / d
 moves : (n a b c d : ℕ) → 0 < b → a * d ≡ c * b → n * b ≡ a → n * d ≡ c
@@ -50,14 +45,6 @@ rootOf-same f a b c d B D e =
     ∙ sym (rootOf-is f c d)
 
 -- ---- a number that is written with an odd m
-
-sqrt-fin : (f : Format) (s : Bool) (m : ℕ) (e : ℤ) → 0 < m → sqrtOf f (fin s m e) ≡ cond s nan (rootOf f (m * up e) (down e))
-unfolding sqrtOf
-sqrt-fin f s zero e h = absurd (lt-irrefl 0 h)
-sqrt-fin f s (suc m) e h = cond-no (eqb (suc m) 0) (fin s (suc m) e) (cond s nan (rootOf f (suc m * up e) (down e))) (not-T (eqb (suc m) 0) (λ t. no (eqb→eq (suc m) 0 t)))
-  where
-    no : suc m ≡ 0 → ⊥
-    no z = omega arith
 
 -- what `odd` keeps of q is above zero
 odd-some : (d : ℕ) (s : Bool) (q k l : ℕ) → 0 < suc q / 2 ^ trailingZeros d (suc q)

@@ -8,3 +8,8 @@ pub mod Cut
 pub mod Sign
 pub mod Pack
 pub mod Narrowing
+pub mod Length
+pub mod Words
+pub mod Choosing
+pub mod Counting
+pub mod Widening

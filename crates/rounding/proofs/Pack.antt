@@ -14,17 +14,11 @@ use lib.Ieee.Digits.{size-le}
 use lib.Ieee.Fits.{two, round-is, nearest-le}
 use lib.Ieee.Exact.{HasValue, units-val}
 use lib.Ieee.Nearest.{closest, closest-same, div-same, nearest-ge}
+use Rattle.rounding.specs.Laws.Basics.{pow-le-back, div-at, ones-ge}
 use Rattle.rounding.specs.Laws.Nearest.{Cmp, cmp}
 use Rattle.rounding.proofs.Pattern.{twice, size-at, bits-of}
 
 -- ---- the two sides of the largest number
-
-ones-ge : (f : Format) → 3 ≤ ones f
-ones-ge binary32 = lit≤ tt
-ones-ge binary64 = lit≤ tt
-
-pow-le-back : (a l : ℕ) → 2 ^ a ≤ 2 ^ l → a ≤ l
-pow-le-back a l h = le-of-suc-le-suc (lt-of-not-le (λ (g : suc l ≤ a). lt-irrefl (2 ^ l) (lt-of-lt-of-le (pow-lt g) h)))
 
 limit-is : (f : Format) → low f + suc (emax f) ≡ prec f + (ones f - 2)
 limit-is f = let t = two f in let o = ones-ge f in omega arith
@@ -173,9 +167,6 @@ module _ (f : Format) (s : Bool) (q h D c : ℕ) (short : q < 2 ^ (prec f + c)) 
       (le-trans (closest-le q (2 ^ S)) (div-lt-iff-lt-mul (pow-pos S) .1 (lt-of-lt-of-le short (le-trans (pow-mono i2) (le-of-eq (pow-add 2 (prec f) S))))))
 
 -- ---- the code's way to round to the even one
-
-div-at : (x d k r : ℕ) → x ≡ k * d + r → r < d → x / d ≡ k
-div-at x d k r e h = ap (λ (y : ℕ). y / d) e ∙ digits-div k h
 
 pub even-up : (q c : ℕ) → 0 < c → closest q (2 * c) ≡ (q + (c - 1) + q / (2 * c) % 2) / (2 * c)
 even-up q c C = go (compare (q % (2 * c) * 2) (2 * c)) (cmp (q % (2 * c) * 2) (2 * c)) (q / (2 * c) % 2) (omega arith) refl

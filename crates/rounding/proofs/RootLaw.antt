@@ -22,7 +22,7 @@ use Rattle.rounding.specs.Steps.{Root, Rooted}
 use Rattle.rounding.proofs.Pattern.{twice, size-at, bits-of}
 use Rattle.rounding.specs.Laws.Isqrt.{sq-lt, isqrt-root}
 use Rattle.rounding.specs.Laws.Nearest.{Cmp, cmp}
-use Rattle.rounding.specs.Laws.RootNearest.{over, rootOf-is, four}
+use Rattle.rounding.specs.Laws.RootNearest.{over, over-le, rootOf-is, four}
 
 -- ---- the root of M * P * P is between R * P and (R + 1) * P, for the root R of M
 
@@ -78,10 +78,6 @@ half-up A P R p lo hi odd = go (R % 2) refl odd
         closest-at A q (4 * P) v (omega arith) (omega arith) ∙ up-to q (v * 2) (4 * P) (compare (v * 2) (4 * P)) (cmp (v * 2) (4 * P)) w ∙ omega arith
 
 -- ---- the rounded root
-
-small : (b : Bool) → over b ≤ 1
-small true = lit≤ tt
-small false = lit≤ tt
 
 exact : (a b : ℕ) → over (eqb a b) ≡ 0 → a ≡ b
 exact a b h = go (eqb a b) (eqb→eq a b) h
@@ -231,4 +227,4 @@ module _ (f : Format) (n v h R : ℕ)
       let none : over t ≡ 0 → r * r ≡ 2 * v * 2 ^ prec f * (2 ^ h * 2 ^ h) = λ z. cancel (r * r) (2 * v * 2 ^ prec f * (2 ^ h * 2 ^ h)) (2 ^ low f) (pow-pos (low f)) (exact (r * r * 2 ^ low f) (n * 4 ^ suc (low f)) z ∙ whole) in
       subst (λ (x : Float). Rooted f x (h * hid f + (R + 1) / 2))
       (sym (rootOf-is f n (2 ^ low f)))
-      (rounded r is (over t) (small t) none)
+      (rounded r is (over t) (over-le t) none)

@@ -17,8 +17,9 @@ use lib.Ieee.Bits.{is-true, is-false, ofBits-toBits, nanBits-is, nanBits-above}
 use lib.Ieee.Compare.{differs-from-itself}
 use Rattle.rounding.specs.Steps.{Wholes, sizeOf}
 use Rattle.rounding.specs.Whole.{Way, wholeBy, wholeOf}
+use Rattle.rounding.specs.Laws.Whole.{wholeBy-same}
 use Rattle.rounding.proofs.Fields.{ofBits-is, field-some, low-part, under-top}
-use Rattle.rounding.proofs.Cut.{wholeBy-same, expo, digs, Parts, parts}
+use Rattle.rounding.proofs.Cut.{expo, digs, Parts, parts}
 
 pub nan-whole : (f : Format) (w : Bool → Way) (x : Float) → ne x x ≡ true → x ≡ wholeOf f w x
 unfolding wholeOf

@@ -1,4 +1,4 @@
--- Worked examples of `sqrtOf`, which antt runs. Assumes nothing.
+-- Worked examples of the root, of whole numbers and of the narrower format, which antt runs. Assumes nothing.
 use mathlib.Core.Path.{_≡_, refl}
 use mathlib.Core.Bool.{true, false}
 use lib.IntN.{pos, negsuc}

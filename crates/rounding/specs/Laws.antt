@@ -1,14 +1,20 @@
 -- Laws about the definitions, for the crates above to cite.
-pub mod Isqrt
-pub mod Nearest
-pub mod RootNearest
-pub mod RootOrder
-pub mod RootTest
+pub mod Basics
 pub mod Signed
 pub mod Order
 pub mod Rounding
+pub mod Nearest
+pub mod Held
 pub mod Sums
 pub mod Quotients
-pub mod Floor
-pub mod Column
+pub mod Products
+pub mod Count
+pub mod Whole
+pub mod Width
 pub mod Extremes
+pub mod Column
+pub mod Isqrt
+pub mod RootNearest
+pub mod RootOrder
+pub mod RootTest
+pub mod Thresholds

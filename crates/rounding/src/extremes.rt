@@ -32,10 +32,10 @@ pub fn clamp32(x: f32, lo: f32, hi: f32) -> f32
 pub fn abs32(x: f32) -> f32
     ensures { λ r. ⌜ r ≡ absOf x ⌝ }
 {
-    if x < 0.0 {
-        return -x;
+    if x != x {
+        return x;
     }
-    if x == 0.0 { 0.0 } else { x }
+    f32::from_bits(f32::to_bits(x) & 0x7fff_ffff)
 }
 
 pub fn is_finite32(x: f32) -> bool
@@ -75,10 +75,10 @@ pub fn clamp64(x: f64, lo: f64, hi: f64) -> f64
 pub fn abs64(x: f64) -> f64
     ensures { λ r. ⌜ r ≡ absOf x ⌝ }
 {
-    if x < 0.0 {
-        return -x;
+    if x != x {
+        return x;
     }
-    if x == 0.0 { 0.0 } else { x }
+    f64::from_bits(f64::to_bits(x) & 0x7fff_ffff_ffff_ffff)
 }
 
 pub fn is_finite64(x: f64) -> bool

@@ -1,45 +1,30 @@
 -- The column of a grid that a coordinate x falls into: floor ((x - m) / cell), cut to the range of the grid. It keeps the order, whatever m is, for every cell that is not negative:
 -- where a nan comes up, the column is 0 and no smaller x has a larger one. Assumes nothing.
-use mathlib.Core.Path.{_≡_, refl, sym, ap, _∙_, subst}
+use mathlib.Core.Path.{_≡_, refl, sym, ap, _∙_}
 use mathlib.Core.Logic.{_⊎_, inl, inr}
-use Prim.Native.Nat.{ℕ, zero, suc, _+_, _-_, _*_, _/_, _^_, _≤_, _<_, min, zero-le}
+use Prim.Native.Nat.{ℕ, zero, suc, _+_, _-_, _*_, _^_, _≤_, _<_, min, zero-le}
 use native.Mathlib.Nat.{mul-pos, zero-mul, zero-min}
 use native.Mathlib.Omega.{arith}
-use mathlib.Core.Bool.{Bool, true, false, not, _&&_, _||_, cond, true≢false}
+use mathlib.Core.Bool.{Bool, true, false, _||_, cond, true≢false}
 use lib.IntN.{ℤ, pos, negsuc}
-use lib.Dec.{T, ltb, eqb, eqb·suc-zero}
-use lib.Pow.{pow-pos}
-use lib.Ieee.{Float, nan, inf, fin, Format, binary32, up, down, odd, size, round, add, sub, neg, div, unlike, lt, le, isNan, toUnsigned}
-use lib.Ieee.Fits.{up-pos, down-pos}
+use lib.Dec.{T, eqb, eqb·suc-zero}
+use lib.Ieee.{Float, nan, inf, fin, Format, binary32, up, down, round, sub, div, unlike, lt, le, isNan, toUnsigned}
+use lib.Ieee.Fits.{up-pos, down-pos, div-fits}
 use lib.Ieee.Exact.{HasValue}
 use lib.Ieee.Positive.{above, above-of-le, positive}
+use Rattle.rounding.specs.Whole.{floorOf}
 use Rattle.rounding.specs.Column.{bucket, col}
-use Rattle.rounding.specs.Laws.Signed.{pp, nn, Cross}
-use Rattle.rounding.specs.Laws.Order.{IsNum, Le, le→Le, Le→le, Le-right, le-of-lt, le-num-right}
-use Rattle.rounding.specs.Laws.Signed.{or-split}
-use Rattle.rounding.specs.Laws.Rounding.{Signed, odd-signed, round-signed, round-zero, zero-of}
+use Rattle.rounding.specs.Laws.Order.{Le, le→Le, Le→le, Le-right, le-of-lt}
+use Rattle.rounding.specs.Laws.Basics.{or-split}
+use Rattle.rounding.specs.Laws.Rounding.{Signed, round-signed, round-zero, zero-of}
 use Rattle.rounding.specs.Laws.Sums.{sub-mono-left, sub-num}
-use Rattle.rounding.specs.Laws.Quotients.{div-Le, div-fin, div-inf, unlike-false}
-use Rattle.rounding.specs.Laws.Floor.{floorOf, floor-mono, floor-value, cut, none, toUnsigned-mono, cast-floor}
-
--- ---- what the cast makes 0: a nan, and a number that is not above 0
-abbrev pub Low : Float → Type 0
-Low nan = Unit {0}
-Low (inf s) = s ≡ true
-Low (fin true m e) = Unit {0}
-Low (fin false m e) = m ≡ 0
+use Rattle.rounding.specs.Laws.Quotients.{div-Le, div-fin, unlike-false}
+use Rattle.rounding.specs.Laws.Count.{Low, low-cast, toUnsigned-mono}
+use Rattle.rounding.specs.Laws.Whole.{cast-floor}
 
 -- the order, or the smaller is `Low`
 abbrev Weak : Float → Float → Type 0
 Weak x y = T (le x y) ⊎ Low x
-
-low-cast : (w : ℕ) (x : Float) → Low x → toUnsigned w x ≡ 0
-unfolding toUnsigned
-low-cast w nan h = refl
-low-cast w (inf true) h = refl
-low-cast w (inf false) h = absurd (true≢false (sym h))
-low-cast w (fin true m e) h = refl
-low-cast w (fin false m e) h = rw (h, zero-mul (up e)) (let k : 0 / down e ≡ 0 = none (down e) (down-pos e) in omega arith)
 
 signed-low : (x : Float) → Signed true x → Low x
 signed-low nan h = absurd h
@@ -52,18 +37,6 @@ value-low nan c C h = absurd h
 value-low (inf t) c C h = absurd h
 value-low (fin true m e) c C h = tt
 value-low (fin false m e) c C h = zero-of m (up e * c) 0 0 (mul-pos (up-pos e) C) (let k : m * up e * c ≡ 0 * down e = h .1 in omega arith)
-
-low-odd : (d q : ℕ) → q ≡ 0 → Low (odd d false q 0 0)
-unfolding odd
-low-odd d q h = rw h refl
-
-low-floor : (x : Float) → Low x → Low (floorOf x)
-unfolding floorOf
-low-floor nan h = tt
-low-floor (inf s) h = h
-low-floor (fin s m (pos k)) h = h
-low-floor (fin true m (negsuc k)) h = let q = cut true m (2 ^ suc k) in signed-low (odd (size q) true q 0 0) (odd-signed (size q) true q 0 0)
-low-floor (fin false m (negsuc k)) h = let q = cut false m (2 ^ suc k) in low-odd (size q) q (rw h (none (2 ^ suc k) (pow-pos (suc k))))
 
 -- a cell's width: anything but a negative number or -0
 abbrev pub Width : Float → Type 0
@@ -178,31 +151,28 @@ none-cast i h =
       | inr l ↦ let k : toUnsigned 64 i ≤ toUnsigned 64 (fin false 0 (pos 0)) = toUnsigned-mono 64 i (fin false 0 (pos 0)) (le-of-lt i (fin false 0 (pos 0)) l) in omega (arith, zero-cast)
     ]
 
-pub bucket-is : (f : Format) (off cell : Float) (count : ℕ) → bucket f off cell count ≡ min (toUnsigned 64 (floorOf (div f off cell))) (count - 1)
+pub bucket-is : (f : Format) (off cell : Float) (count : ℕ) → bucket f off cell count ≡ min (toUnsigned 64 (floorOf f (div f off cell))) (count - 1)
 unfolding bucket
-bucket-is f off cell count = go (isNan (floorOf (div f off cell)) || lt (floorOf (div f off cell)) (fin false 0 (pos 0))) (none-cast (floorOf (div f off cell)))
+bucket-is f off cell count = go (isNan (floorOf f (div f off cell)) || lt (floorOf f (div f off cell)) (fin false 0 (pos 0))) (none-cast (floorOf f (div f off cell)))
   where
-    go : (b : Bool) → (T b → toUnsigned 64 (floorOf (div f off cell)) ≡ 0)
-        → cond b 0 (min (toUnsigned 64 (floorOf (div f off cell))) (count - 1)) ≡ min (toUnsigned 64 (floorOf (div f off cell))) (count - 1)
+    go : (b : Bool) → (T b → toUnsigned 64 (floorOf f (div f off cell)) ≡ 0)
+        → cond b 0 (min (toUnsigned 64 (floorOf f (div f off cell))) (count - 1)) ≡ min (toUnsigned 64 (floorOf f (div f off cell))) (count - 1)
     go true p = rw (p tt) (sym (zero-min (count - 1)))
     go false p = refl
 
 -- so neither the floor nor the tests for a nan and for a negative number change the column
 pub bucket-cut : (f : Format) (off cell : Float) (count : ℕ) → bucket f off cell count ≡ min (toUnsigned 64 (div f off cell)) (count - 1)
-bucket-cut f off cell count = bucket-is f off cell count ∙ ap (λ (z : ℕ). min z (count - 1)) (cast-floor 64 (div f off cell))
+bucket-cut f off cell count = bucket-is f off cell count ∙ ap (λ (z : ℕ). min z (count - 1)) (cast-floor 64 f (div f off cell) (div-fits f off cell))
 
 -- ---- it keeps the order
 weak-bucket : (f : Format) (x y cell : Float) (count : ℕ) → Width cell → Weak x y → bucket f x cell count ≤ bucket f y cell count
-weak-bucket f x y cell count w h = rw (bucket-is f x cell count, bucket-is f y cell count) (capped (toUnsigned 64 (floorOf (div f x cell))) (toUnsigned 64 (floorOf (div f y cell))) (count - 1) (cast (floorOf (div f x cell)) (floorOf (div f y cell)) (floors (div f x cell) (div f y cell) (quotients h))))
+weak-bucket f x y cell count w h = rw (bucket-cut f x cell count, bucket-cut f y cell count) (capped (toUnsigned 64 (div f x cell)) (toUnsigned 64 (div f y cell)) (count - 1) (cast (div f x cell) (div f y cell) (quotients h)))
   where
     capped : (a b k : ℕ) → a ≤ b → min a k ≤ min b k
     capped a b k h = omega arith
 
     cast : (x y : Float) → Weak x y → toUnsigned 64 x ≤ toUnsigned 64 y
     cast x y h = elim h [ inl l ↦ toUnsigned-mono 64 x y l | inr l ↦ rw (low-cast 64 x l) zero-le ]
-
-    floors : (x y : Float) → Weak x y → Weak (floorOf x) (floorOf y)
-    floors x y h = elim h [ inl l ↦ inl (floor-mono x y l) | inr l ↦ inr (low-floor x l) ]
 
     quotients : Weak x y → Weak (div f x cell) (div f y cell)
     quotients h = elim h [ inl l ↦ weak-div f x y cell w (le→Le x y l) | inr l ↦ inr (low-div f x cell w l) ]
@@ -234,7 +204,7 @@ width-ge lo c p h = width-above c (above-of-le lo c p h)
 
 -- ---- the columns where an infinity stands. With m = +infinity, or an infinite cell, every x has the column 0.
 pub low-bucket : (f : Format) (off cell : Float) (count : ℕ) → Width cell → Low off → bucket f off cell count ≡ 0
-low-bucket f off cell count w h = rw (bucket-is f off cell count, low-cast 64 (floorOf (div f off cell)) (low-floor (div f off cell) (low-div f off cell w h))) (zero-min (count - 1))
+low-bucket f off cell count w h = rw (bucket-cut f off cell count, low-cast 64 (div f off cell) (low-div f off cell w h)) (zero-min (count - 1))
 
 low-sub-inf : (f : Format) (x : Float) → Low (sub f x (inf false))
 unfolding sub
@@ -255,7 +225,7 @@ low-over-inf f (fin s m e) = zero-low (unlike s false)
 
 pub col-cell-inf : (f : Format) (m : Float) (count : ℕ) (x : Float) → col f m (inf false) count x ≡ 0
 unfolding col
-col-cell-inf f m count x = rw (bucket-is f (sub f x m) (inf false) count, low-cast 64 (floorOf (div f (sub f x m) (inf false))) (low-floor (div f (sub f x m) (inf false)) (low-over-inf f (sub f x m)))) (zero-min (count - 1))
+col-cell-inf f m count x = rw (bucket-cut f (sub f x m) (inf false) count, low-cast 64 (div f (sub f x m) (inf false)) (low-over-inf f (sub f x m))) (zero-min (count - 1))
 
 -- with m = -infinity and a finite cell every x but -infinity has the last column
 pub col-m-minus-inf : (f : Format) (n : ℕ) (d : ℤ) (count : ℕ) (x : Float) → T (lt (inf true) x) → col f (inf true) (fin false n d) count x ≡ min (2 ^ 64 - 1) (count - 1)

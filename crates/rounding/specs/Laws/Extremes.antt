@@ -1,13 +1,13 @@
 -- The smaller and the larger of two floats against each, and the smallest and the largest of a list against its elements.
 -- Of two zeros with different signs Rust may give either, so the laws of lists are stated for every function that meets `Picks`. Assumes nothing.
-use mathlib.Core.Path.{_≡_, refl, sym, ap, _∙_, subst}
+use mathlib.Core.Path.{_≡_, refl, sym, _∙_, subst}
 use mathlib.Core.Logic.{_⊎_, inl, inr}
 use mathlib.Core.List.{List, [], _∷_, List·Memᴰ, List·Memᴰ·head, List·Memᴰ·tail}
-use Prim.Native.Nat.{ℕ, zero, suc, _+_, _≤_, _<_}
+use Prim.Native.Nat.{ℕ, zero, suc, _<_}
 use native.Mathlib.Nat.{not-suc-le-zero, le-of-suc-le-suc}
 use mathlib.Core.Bool.{Bool, true, false, not, cond}
 use lib.ListN.{length, getD}
-use lib.Dec.{T, not-T, T-not}
+use lib.Dec.{T, T-not}
 use lib.Ieee.{Float, nan, inf, fin, le, isNan}
 use Rattle.rounding.specs.Extremes.{first, ge, minOf, maxOf}
 use Rattle.rounding.specs.Laws.Order.{IsNum, le-refl, le-trans, le-total, le-num-left, le-num-right, num-not-nan, not-nan-num}

@@ -1,7 +1,7 @@
 -- `isqrt` is the whole root. Assumes nothing.
-use mathlib.Core.Path.{_≡_, refl, sym, ap, _∙_, subst}
-use Prim.Native.Nat.{ℕ, zero, suc, _+_, _*_, _/_, _^_, _≤_, _<_}
-use native.Mathlib.Nat.{le-trans, lt-of-lt-of-le, lt-of-not-le, not-le-of-lt, mul-le-mul, div-lt-iff-lt-mul, pow-suc, pow-le-pow-left, zero-lt-suc}
+use mathlib.Core.Path.{subst}
+use Prim.Native.Nat.{ℕ, zero, suc, _*_, _/_, _^_, _≤_, _<_}
+use native.Mathlib.Nat.{lt-of-lt-of-le, lt-of-not-le, not-le-of-lt, mul-le-mul, div-lt-iff-lt-mul, pow-suc, pow-le-pow-left, zero-lt-suc}
 use native.Mathlib.Omega.{arith}
 use mathlib.Core.Bool.{Bool, true, false, not, cond}
 use lib.Dec.{T, leb, leb→le, nleb→lt, lit≤}

@@ -1,17 +1,18 @@
 -- The order of floats: `le` is a total preorder on the values that are no nan, `lt` is its strict part, and `eq` its equivalence. A comparison with a nan is false.
 -- The values need fit no format. Infinities, zeros of both signs and negative numbers are included. Assumes nothing.
-use mathlib.Core.Path.{_≡_, refl, sym, ap, subst}
+use mathlib.Core.Path.{_≡_, refl, sym, subst}
 use mathlib.Core.Logic.{_⊎_, inl, inr, _↔_}
-use Prim.Native.Nat.{ℕ, zero, suc, _+_, _-_, _*_, _≤_, _<_}
-use native.Mathlib.Nat.{mul-right-comm}
+use Prim.Native.Nat.{ℕ, _+_, _*_, _≤_, _<_}
+use native.Mathlib.Nat.{mul-pos}
 use native.Mathlib.Omega.{arith}
-use mathlib.Core.Bool.{Bool, true, false, not, _&&_, _||_, Bool·beq, cond}
+use mathlib.Core.Bool.{Bool, true, false, not}
 use lib.IntN.{ℤ}
-use lib.Dec.{T, T-not, not-T, leb, ltb, eqb, ltb→lt, lt→ltb, eqb→eq, nltb→le, nleb→lt, leb→le}
-use lib.Ieee.{Float, nan, inf, fin, up, down, below, level, lt, eq, le, ne, neg, isNan}
+use lib.Dec.{T, T-not, not-T, leb, nleb→lt, leb→le}
+use lib.Ieee.{Float, nan, inf, fin, up, down, lt, eq, le, ne, isNan}
 use lib.Ieee.Compare.{differs-from-itself}
-use lib.Ieee.Fits.{up-pos, down-pos}
-use Rattle.rounding.specs.Laws.Signed.{pp, nn, Leq, Less, below→Less, Less→below, or-split, level→eq, eq→level, Leq→le, le→Leq, Cross, scaled, unscaled, cross-trans}
+use lib.Ieee.Fits.{down-pos}
+use Rattle.rounding.specs.Laws.Basics.{or-l, or-r, or-split}
+use Rattle.rounding.specs.Laws.Signed.{pp, nn, Leq, below→Less, Less→below, level→eq, eq→level, Leq→le, le→Leq, Cross, scaled, unscaled, cross-trans}
 
 -- a number: an infinity or a finite value
 abbrev pub IsNum : Float → Type 0
@@ -148,6 +149,18 @@ Le-total (fin s m e) (inf true) p q = inr tt
 Le-total (fin s m e) (inf false) p q = inl tt
 Le-total (fin s m e) (fin t n d) p q = either (pp s (m * up e) * down d + nn t (n * up d) * down e) (pp t (n * up d) * down e + nn s (m * up e) * down d)
 
+-- zeros are level, and infinities ordered by their signs as numbers other than zero are
+pub zeros : (s : Bool) (e : ℤ) (t : Bool) (d : ℤ) → Le (fin s 0 e) (fin t 0 d)
+zeros true e true d = omega arith
+zeros true e false d = omega arith
+zeros false e true d = omega arith
+zeros false e false d = omega arith
+
+pub infs : (s t : Bool) (a c b d : ℕ) → 0 < a → 0 < d → Cross s a c t b d → Le (inf s) (inf t)
+infs true t a c b d A D h = tt
+infs false false a c b d A D h = tt
+infs false true a c b d A D h = let k : 0 < a * d = mul-pos A D in omega arith
+
 -- ---- the same for the test
 pub le-refl : (x : Float) → IsNum x → T (le x x)
 le-refl x n = Le→le x x (Le-refl x n)
@@ -202,14 +215,6 @@ eq-nan (inf s) = refl
 eq-nan (fin s m e) = refl
 
 -- ---- the strict part
-or-l : (a b : Bool) → T a → T (a || b)
-or-l true b t = tt
-or-l false b t = absurd t
-
-or-r : (a b : Bool) → T b → T (a || b)
-or-r true b t = tt
-or-r false b t = t
-
 pub le-of-lt : (x y : Float) → T (lt x y) → T (le x y)
 unfolding le
 le-of-lt x y h = or-l (lt x y) (eq x y) h

@@ -1,26 +1,21 @@
 -- A quotient x / c grows with x, for a c that is not negative and has the sign bit clear: a number above 0, +0 or +infinity, wherever the results are no nan.
 -- For a c that is finite and above 0 they never are. Assumes nothing.
-use mathlib.Core.Path.{_≡_, refl, sym, ap, _∙_, subst}
-use mathlib.Core.Logic.{_⊎_, inl, inr}
-use Prim.Native.Nat.{ℕ, zero, suc, _+_, _-_, _*_, _≤_, _<_}
-use native.Mathlib.Nat.{mul-pos, mul-le-mul-right}
-use native.Mathlib.Omega.{arith}
-use mathlib.Core.Bool.{Bool, true, false, not, _&&_, Bool·beq, cond, true≢false}
+use mathlib.Core.Path.{_≡_, refl}
+use Prim.Native.Nat.{ℕ, zero, suc, _*_, _<_}
+use native.Mathlib.Nat.{mul-pos, zero-lt-suc}
+use mathlib.Core.Bool.{Bool, true, false, true≢false}
 use lib.IntN.{ℤ, pos}
-use lib.Dec.{T, ltb, eqb, eqb→eq, eqb·suc-zero, ltb→lt, nltb→le}
+use lib.Dec.{T, eqb·suc-zero}
 use lib.Ieee.{Float, nan, inf, fin, Format, up, down, round, unlike, div, le}
 use lib.Ieee.Fits.{up-pos, down-pos}
 use lib.Ieee.Positive.{positive}
-use Rattle.rounding.specs.Laws.Signed.{pp, nn, Cross, pp-mul, nn-mul}
-use Rattle.rounding.specs.Laws.Order.{IsNum, Le, le→Le, Le→le, bottom, top, le-bottom, le-top, Le-right}
+use Rattle.rounding.specs.Laws.Signed.{cross-mul}
+use Rattle.rounding.specs.Laws.Order.{IsNum, Le, le→Le, Le→le, le-bottom, le-top, Le-right, zeros, infs}
 use Rattle.rounding.specs.Laws.Rounding.{Signed, round-order, round-num}
 
 pub unlike-false : (s : Bool) → unlike s false ≡ s
 unlike-false true = refl
 unlike-false false = refl
-
-suc-pos : (n : ℕ) → 0 < suc n
-suc-pos n = omega arith
 
 pub div-fin : (f : Format) (s : Bool) (m : ℕ) (e : ℤ) (n : ℕ) (d : ℤ) → div f (fin s m e) (fin false (suc n) d) ≡ round f s (m * up e * down d) (suc n * up d * down e)
 unfolding div
@@ -33,13 +28,6 @@ div-inf f s n d = rw (unlike-false s)
 div-by-inf : (f : Format) (s : Bool) (m : ℕ) (e : ℤ) → div f (fin s m e) (inf false) ≡ fin s 0 (pos 0)
 unfolding div
 div-by-inf f s m e = rw (unlike-false s)
-
--- ---- the arithmetic
-glue : (p n p' n' c c' g k : ℕ) → p * c' + n' * c ≤ p' * c + n * c' → p * g * (k * c') + n' * g * (k * c) ≤ p' * g * (k * c) + n * g * (k * c')
-glue p n p' n' c c' g k h = let x : (p * c' + n' * c) * (g * k) ≤ (p' * c + n * c') * (g * k) = mul-le-mul-right (g * k) h in omega arith
-
-over : (s : Bool) (a c : ℕ) (t : Bool) (b d g k : ℕ) → Cross s a c t b d → Cross s (a * g) (k * c) t (b * g) (k * d)
-over s a c t b d g k h = simp (pp-mul, nn-mul) (glue (pp s a) (nn s a) (pp t b) (nn t b) c d g k h)
 
 -- ---- by a number above 0
 div-fin-num : (f : Format) (x : Float) (n : ℕ) (d : ℤ) → IsNum x → IsNum (div f x (fin false (suc n) d))
@@ -60,8 +48,8 @@ div-Le f (fin s m e) (inf false) n d h = rw (div-inf f false (suc n) d) (le-top 
 div-Le f (fin s m e) (fin s' m' e') n d h =
     rw (div-fin f s m e n d, div-fin f s' m' e' n d)
     (round-order f s (m * up e * down d) (suc n * up d * down e) s' (m' * up e' * down d) (suc n * up d * down e')
-    (mul-pos (mul-pos (suc-pos n) (up-pos d)) (down-pos e)) (mul-pos (mul-pos (suc-pos n) (up-pos d)) (down-pos e'))
-    (over s (m * up e) (down e) s' (m' * up e') (down e') (down d) (suc n * up d) h))
+    (mul-pos (mul-pos (zero-lt-suc n) (up-pos d)) (down-pos e)) (mul-pos (mul-pos (zero-lt-suc n) (up-pos d)) (down-pos e'))
+    (cross-mul s (m * up e) (down e) s' (m' * up e') (down e') (down d) (suc n * up d) h))
 
 pub div-num : (f : Format) (x c : Float) → IsNum x → T (positive c) → IsNum (div f x c)
 div-num f x nan p q = absurd q
@@ -78,33 +66,19 @@ div-mono f x y (fin false zero d) h p = absurd p
 div-mono f x y (fin false (suc n) d) h p = div-Le f x y n d (le→Le x y h)
 
 -- ---- by +infinity: the results are zeros
-zeros : (s t : Bool) → T (le (fin s 0 (pos 0)) (fin t 0 (pos 0)))
-zeros s t = Le→le (fin s 0 (pos 0)) (fin t 0 (pos 0)) (go s t)
-  where
-    go : (s t : Bool) → Le (fin s 0 (pos 0)) (fin t 0 (pos 0))
-    go true true = omega arith
-    go true false = omega arith
-    go false true = omega arith
-    go false false = omega arith
-
 div-by-inf-Le : (f : Format) (x y : Float) → IsNum (div f x (inf false)) → IsNum (div f y (inf false)) → T (le (div f x (inf false)) (div f y (inf false)))
 unfolding div
 div-by-inf-Le f nan y p q = absurd p
 div-by-inf-Le f (inf s) y p q = absurd p
 div-by-inf-Le f (fin s m e) nan p q = absurd q
 div-by-inf-Le f (fin s m e) (inf t) p q = absurd q
-div-by-inf-Le f (fin s m e) (fin t n d) p q = zeros (unlike s false) (unlike t false)
+div-by-inf-Le f (fin s m e) (fin t n d) p q = Le→le (fin (unlike s false) 0 (pos 0)) (fin (unlike t false) 0 (pos 0)) (zeros (unlike s false) (pos 0) (unlike t false) (pos 0))
 
 -- ---- by +0: the results are infinities
 nonzero : (f : Format) (s : Bool) (m : ℕ) (e d : ℤ) → IsNum (div f (fin s m e) (fin false zero d)) → (0 < m) × (div f (fin s m e) (fin false zero d) ≡ inf s)
 unfolding div
 nonzero f s zero e d p = absurd p
-nonzero f s (suc m) e d p = (suc-pos m, rw (eqb·suc-zero m, unlike-false s))
-
-infs : (s t : Bool) (a c b d : ℕ) → 0 < a → 0 < d → Cross s a c t b d → Le (inf s) (inf t)
-infs true t a c b d A D h = tt
-infs false false a c b d A D h = tt
-infs false true a c b d A D h = let k : 0 < a * d = mul-pos A D in omega arith
+nonzero f s (suc m) e d p = (zero-lt-suc m, rw (eqb·suc-zero m, unlike-false s))
 
 div-by-zero-Le : (f : Format) (x y : Float) (d : ℤ) → Le x y → IsNum (div f x (fin false zero d)) → IsNum (div f y (fin false zero d)) → T (le (div f x (fin false zero d)) (div f y (fin false zero d)))
 div-by-zero-Le f nan y d h p q = absurd h

@@ -1,15 +1,14 @@
 -- `sqrtOf` is right: of all that the format holds, no number is nearer to the root (`sqrt-nearest`). The statement has no scaling in it, and no `isqrt`. Assumes nothing.
 use mathlib.Core.Path.{_≡_, refl, sym, ap, _∙_, subst}
-use mathlib.Core.Logic.{_⊎_, inl, inr}
 use Prim.Native.Nat.{ℕ, zero, suc, _+_, _-_, _*_, _/_, _%_, _^_, _≤_, _<_, compare}
-use native.Mathlib.Nat.{le-trans, le-of-eq, lt-of-lt-of-le, lt-of-le-of-lt, div-div-eq-div-mul, lt-irrefl, lt-of-not-le, not-le-of-lt, le-of-suc-le-suc, mul-le-mul, mul-le-mul-left, mul-le-mul-right, mul-lt-mul-of-pos-right, le-of-mul-le-mul-right, lt-of-mul-lt-mul-right, mul-pos, mul-one, mul-assoc, mul-comm, mul-right-comm, zero-mul, div-mul-le-self, div-lt-iff-lt-mul, zero-lt-suc, pow-succ'}
+use native.Mathlib.Nat.{le-trans, le-of-eq, lt-of-le-of-lt, div-div-eq-div-mul, lt-irrefl, mul-le-mul, mul-le-mul-right, mul-lt-mul-of-pos-right, le-of-mul-le-mul-right, mul-pos, div-mul-le-self, div-lt-iff-lt-mul, zero-lt-suc, pow-succ'}
 use native.Mathlib.Omega.{arith}
-use mathlib.Core.Bool.{Bool, true, false, not, cond, _&&_}
-use lib.IntN.{ℤ, pos, negsuc}
-use lib.Dec.{T, leb, ltb, eqb, eqb→eq, leb→le, ltb→lt, not-T, lit≤}
+use mathlib.Core.Bool.{Bool, true, false, cond}
+use lib.IntN.{ℤ}
+use lib.Dec.{T, eqb, eqb→eq, not-T, lit≤}
 use lib.Pow.{pow-add, pow-pos, pow-mono, pow-lt}
-use lib.Ieee.{Float, nan, inf, fin, Format, binary32, binary64, size, prec, emax, low, up, down, round, fits}
-use lib.Ieee.Fits.{two, and-l, and-r, down-pos, kept-lt, nearest-le}
+use lib.Ieee.{Float, nan, fin, Format, size, prec, emax, low, up, down, round, fits}
+use lib.Ieee.Fits.{two, down-pos, kept-lt, nearest-le}
 use lib.Ieee.Bits.{cond-no}
 use lib.Ieee.Exact.{HasValue}
 use lib.Ieee.Scale.{grid, overflow, round-val, round-under, finite}
@@ -18,8 +17,10 @@ use Rattle.rounding.specs.Root.{isqrt, rootOf, sqrtOf}
 use Rattle.rounding.specs.Steps.{Root}
 use lib.Ieee.Digits.{size-le}
 use lib.Ieee.Nearest.{closest}
+use Rattle.rounding.specs.Laws.Basics.{emax-ge}
 use Rattle.rounding.specs.Laws.Isqrt.{isqrt-root, sq-lt}
-use Rattle.rounding.specs.Laws.Nearest.{NoNearer, round-nearest}
+use Rattle.rounding.specs.Laws.Nearest.{NoNearer, round-nearest, sum-is, order}
+use Rattle.rounding.specs.Laws.Held.{Held, held, bounded, value-finite}
 
 -- v is no farther from the root of x than w is: the middle of the two, (v + w) / 2, is on w's side of the root or on it, so its square is on that side of x.
 -- Each of the three is num / den.
@@ -36,6 +37,10 @@ over false = 1
 pub over-is : (b : Bool) → cond b 0 1 ≡ over b
 over-is true = refl
 over-is false = refl
+
+pub over-le : (b : Bool) → over b ≤ 1
+over-le true = omega arith
+over-le false = omega arith
 
 pub rootOf-is : (f : Format) (a d : ℕ) → rootOf f a d ≡ round f false (2 * isqrt (a * 4 ^ suc (low f) / d) + over (eqb (isqrt (a * 4 ^ suc (low f) / d) * isqrt (a * 4 ^ suc (low f) / d) * d) (a * 4 ^ suc (low f)))) (2 * 2 ^ suc (low f))
 unfolding rootOf
@@ -73,18 +78,6 @@ middle-above g u A l r n d false x e L D h root =
 squares : (S M D l : ℕ) → S * l ≡ M * D → S * S * (l * l) ≡ M * M * (D * D)
 squares S M D l e = let a = ap (λ (x : ℕ). x * (S * l)) e in let b = ap (λ (x : ℕ). M * D * x) e in omega arith
 
--- num and den of v and w in units of 1 / l
-sum-is : (nv dv nw dw g u l : ℕ) → nv * l ≡ g * dv → nw * l ≡ u * dw → (nv * dw + nw * dv) * l ≡ (g + u) * (dv * dw)
-sum-is nv dv nw dw g u l p q = let a = ap (λ (x : ℕ). x * dw) p in let b = ap (λ (x : ℕ). x * dv) q in omega arith
-
-order : (nv dv nw dw g u l : ℕ) → 0 < dv → 0 < dw → 0 < l → nv * l ≡ g * dv → nw * l ≡ u * dw → nw * dv < nv * dw → u < g
-order nv dv nw dw g u l X W L p q h =
-    let a : nw * dv * l < nv * dw * l = mul-lt-mul-of-pos-right h L in
-    let b = ap (λ (x : ℕ). x * dw) p in
-    let c = ap (λ (x : ℕ). x * dv) q in
-    let d : u * (dv * dw) < g * (dv * dw) = omega arith in
-    lt-of-mul-lt-mul-right (dv * dw) d
-
 scaled-below : (S M D l nx dx n : ℕ) → 0 < l → S * l ≡ M * D → n ≡ 4 * nx * (l * l) → M * M * dx ≤ n → S * S * dx ≤ 4 * (D * D) * nx
 scaled-below S M D l nx dx n L e k h =
     let a : M * M * dx * (D * D) ≤ n * (D * D) = mul-le-mul-right (D * D) h in
@@ -105,55 +98,18 @@ pub four : (k : ℕ) → 4 ^ k ≡ 2 ^ k * 2 ^ k
 four zero = refl
 four (suc k) = let a = pow-succ' 4 k in let b = pow-succ' 2 k in let c = four k in rw (a, b, c) (omega arith)
 
--- ---- a number that the format holds, in units of its smallest value
-
-pow-le-back : (a l : ℕ) → 2 ^ a ≤ 2 ^ l → a ≤ l
-pow-le-back a l h = le-of-suc-le-suc (lt-of-not-le (λ (g : suc l ≤ a). lt-irrefl (2 ^ l) (lt-of-lt-of-le (pow-lt g) h)))
-
--- q * 2 ^ j of them, with few enough digits
-pub record Held (f : Format) (m : ℕ) (e : ℤ) : Type 0 where
-  pub q : ℕ
-  pub j : ℕ
-  pub short : q < 2 ^ prec f
-  pub value : m * up e * 2 ^ low f ≡ q * 2 ^ j * down e
-
-placed : (f : Format) (m : ℕ) (e : ℤ) → m < 2 ^ prec f → down e ≤ 2 ^ low f → Held f m e
-placed f m (pos a) h k = record { q = m; j = a + low f; short = h; value = mul-assoc m (2 ^ a) (2 ^ low f) ∙ ap (λ (x : ℕ). m * x) (sym (pow-add 2 a (low f))) ∙ sym (mul-one (m * 2 ^ (a + low f))) }
-placed f m (negsuc a) h k =
-    let l : suc a ≤ low f = pow-le-back (suc a) (low f) k in
-    let i : low f ≡ low f - suc a + suc a = omega arith in
-    record {
-      q = m;
-      j = low f - suc a;
-      short = h;
-      value = ap (λ (x : ℕ). x * 2 ^ low f) (mul-one m) ∙ ap (λ (x : ℕ). m * x) (ap (λ (x : ℕ). 2 ^ x) i ∙ pow-add 2 (low f - suc a) (suc a)) ∙ sym (mul-assoc m (2 ^ (low f - suc a)) (2 ^ suc a));
-    }
-
-pub held : (f : Format) (s : Bool) (m : ℕ) (e : ℤ) → T (fits f (fin s m e)) → Held f m e
-unfolding fits
-held f s zero e h = record { q = 0; j = 0; short = pow-pos (prec f); value = ap (λ (x : ℕ). x * 2 ^ low f) (zero-mul (up e)) ∙ zero-mul (2 ^ low f) ∙ sym (zero-mul (down e)) }
-held f s (suc m) e h =
-    let A = eqb (suc m % 2) 1 in
-    let B = ltb (suc m) (2 ^ prec f) in
-    let C = leb (down e) (2 ^ low f) in
-    let D = ltb (suc m * up e) (2 ^ suc (emax f) * down e) in
-    placed f (suc m) e
-    (ltb→lt (suc m) (2 ^ prec f) (and-r A B (and-l (A && B) C (and-l (A && B && C) D h))))
-    (leb→le (down e) (2 ^ low f) (and-r (A && B) C (and-l (A && B && C) D h)))
-
 -- ---- the theorem
 
-small : (b : Bool) → over b ≤ 1
-small true = omega arith
-small false = omega arith
-
-pub sqrt-pos : (f : Format) (m : ℕ) (e : ℤ) → 0 < m → sqrtOf f (fin false m e) ≡ rootOf f (m * up e) (down e)
+pub sqrt-fin : (f : Format) (s : Bool) (m : ℕ) (e : ℤ) → 0 < m → sqrtOf f (fin s m e) ≡ cond s nan (rootOf f (m * up e) (down e))
 unfolding sqrtOf
-sqrt-pos f zero e h = absurd (lt-irrefl 0 h)
-sqrt-pos f (suc m) e h = cond-no (eqb (suc m) 0) (fin false (suc m) e) (rootOf f (suc m * up e) (down e)) (not-T (eqb (suc m) 0) (λ t. no (eqb→eq (suc m) 0 t)))
+sqrt-fin f s zero e h = absurd (lt-irrefl 0 h)
+sqrt-fin f s (suc m) e h = cond-no (eqb (suc m) 0) (fin s (suc m) e) (cond s nan (rootOf f (suc m * up e) (down e))) (not-T (eqb (suc m) 0) (λ t. no (eqb→eq (suc m) 0 t)))
   where
     no : suc m ≡ 0 → ⊥
     no z = omega arith
+
+pub sqrt-pos : (f : Format) (m : ℕ) (e : ℤ) → 0 < m → sqrtOf f (fin false m e) ≡ rootOf f (m * up e) (down e)
+sqrt-pos f m e h = sqrt-fin f false m e h
 
 root-nearest : (f : Format) (m : ℕ) (e : ℤ) (n : ℕ) (k : ℤ) → Held f n k → T (finite (rootOf f (m * up e) (down e))) → NoFarther (fin false m e) (rootOf f (m * up e) (down e)) (fin false n k)
 root-nearest f m e n k h t =
@@ -183,7 +139,7 @@ root-nearest f m e n k h t =
     record {
       below = λ o.
           scaled-below (num v * down k + n * up k * den v) (g + u) (den v * down k) l a d N L S Ne
-          (middle-below g u A l r (over b) N d refl (small b) L (near .below (order (num v) (den v) (n * up k) (down k) g u l X W L gv (h .value) o)) root);
+          (middle-below g u A l r (over b) N d refl (over-le b) L (near .below (order (num v) (den v) (n * up k) (down k) g u l X W L gv (h .value) o)) root);
       above = λ o.
           scaled-above (num v * down k + n * up k * den v) (g + u) (den v * down k) l a d N L S Ne
           (middle-above g u A l r N d b (eqb→eq (r * r * d) N) refl L (down-pos e) (near .above (order (n * up k) (down k) (num v) (den v) u g l W X L (h .value) gv o)) root);
@@ -191,20 +147,11 @@ root-nearest f m e n k h t =
 
 -- ---- the root is finite
 
-finite-of : (v : Float) (s : Bool) (a c : ℕ) → HasValue v s a c → T (finite v)
-finite-of nan s a c h = absurd h
-finite-of (inf t) s a c h = absurd h
-finite-of (fin t m e) s a c h = tt
-
 -- a whole root r of what lies below 2 * B * T * T
 root-lt : (r q B T : ℕ) → r * r ≤ q → q < 2 * B * (T * T) → 2 ≤ B → r < B * T
 root-lt r q B T h k b =
     let a : 2 * (B * (T * T)) ≤ B * (B * (T * T)) = mul-le-mul-right (B * (T * T)) b in
     sq-lt r (B * T) (omega arith)
-
-big : (f : Format) → 1 ≤ emax f
-big binary32 = lit≤ tt
-big binary64 = lit≤ tt
 
 -- a / c below 2 ^ emax is rounded to no more than that
 grid-le : (f : Format) (a c : ℕ) → 0 < c → a * 2 ^ low f < 2 ^ (emax f + low f) * c → grid f a c < overflow f
@@ -215,7 +162,7 @@ grid-le f a c C h =
     let z : size (n / c) ≤ emax f + low f = size-le (n / c) (emax f + low f) (div-lt-iff-lt-mul C .1 h) in
     let w : n / (c * 2 ^ k) < 2 ^ p = subst (λ (x : ℕ). x < 2 ^ p) (div-div-eq-div-mul n c (2 ^ k)) (kept-lt p (n / c)) in
     let y : closest n (c * 2 ^ k) ≤ 2 ^ p = le-trans (nearest-le (n / (c * 2 ^ k)) (compare (n % (c * 2 ^ k) * 2) (c * 2 ^ k))) w in
-    let b = big f in
+    let b = emax-ge f in
     let t = two f in
     let i : p + k < low f + suc (emax f) = omega arith in
     lt-of-le-of-lt (mul-le-mul-right (2 ^ k) y) (lt-of-le-of-lt (le-of-eq (sym (pow-add 2 p k))) (pow-lt i))
@@ -236,22 +183,16 @@ root-finite f a d D h =
     div-lt-iff-lt-mul D .1
     (subst (λ (x : ℕ). a * x < 2 * B * (T′ * T′) * d) (sym (four (suc (low f))))
     (let x = mul-lt-mul-of-pos-right (subst (λ (y : ℕ). a < y * d) be h) (mul-pos (pow-pos (suc (low f))) (pow-pos (suc (low f)))) in omega arith)) in
-    let rl : r < B * T′ = root-lt r (N / d) B T′ (isqrt-root (N / d) .under) q (pow-mono (big f)) in
-    let few = small b in
+    let rl : r < B * T′ = root-lt r (N / d) B T′ (isqrt-root (N / d) .under) q (pow-mono {i = 1} (le-trans (lit≤ tt) (emax-ge f))) in
+    let few = over-le b in
     let al : A * l < 2 ^ (emax f + low f) * c =
     subst (λ (x : ℕ). A * l < x * c) (sym (pow-add 2 (emax f) (low f)))
     (let x : A < 2 * (B * T′) = omega arith in let y = mul-lt-mul-of-pos-right x (pow-pos (low f)) in omega arith) in
     let C : 0 < c = mul-pos (zero-lt-suc 1) (pow-pos (suc (low f))) in
-    subst (λ (x : Float). T (finite x)) (sym (rootOf-is f a d)) (finite-of (round f false A c) false (grid f A c) l (round-val f A c (grid-le f A c C al)))
-
-bounded : (f : Format) (m : ℕ) (e : ℤ) → 0 < m → T (fits f (fin false m e)) → m * up e < 2 ^ suc (emax f) * down e
-unfolding fits
-bounded f zero e p h = absurd (lt-irrefl 0 p)
-bounded f (suc m) e p h =
-    ltb→lt (suc m * up e) (2 ^ suc (emax f) * down e) (and-r (eqb (suc m % 2) 1 && ltb (suc m) (2 ^ prec f) && leb (down e) (2 ^ low f)) (ltb (suc m * up e) (2 ^ suc (emax f) * down e)) h)
+    subst (λ (x : Float). T (finite x)) (sym (rootOf-is f a d)) (value-finite (round f false A c) false (grid f A c) l (round-val f A c (grid-le f A c C al)))
 
 pub sqrt-finite : (f : Format) (m : ℕ) (e : ℤ) → 0 < m → T (fits f (fin false m e)) → T (finite (sqrtOf f (fin false m e)))
-sqrt-finite f m e p h = subst (λ (v : Float). T (finite v)) (sym (sqrt-pos f m e p)) (root-finite f (m * up e) (down e) (down-pos e) (bounded f m e p h))
+sqrt-finite f m e p h = subst (λ (v : Float). T (finite v)) (sym (sqrt-pos f m e p)) (root-finite f (m * up e) (down e) (down-pos e) (bounded f false m e h))
 
 -- Of a number above zero: `n * 2 ^ k` stands for any number, zero included, that the format holds.
 pub sqrt-nearest : (f : Format) (m : ℕ) (e : ℤ) (n : ℕ) (k : ℤ) → 0 < m → T (fits f (fin false m e)) → T (fits f (fin false n k)) → NoFarther (fin false m e) (sqrtOf f (fin false m e)) (fin false n k)

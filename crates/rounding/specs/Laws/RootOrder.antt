@@ -1,12 +1,12 @@
 -- `sqrtOf` keeps the order: of two numbers that are not below zero, the larger has no smaller root (`sqrt-mono`). Assumes nothing.
-use mathlib.Core.Path.{_≡_, refl, sym, ap, _∙_, subst}
+use mathlib.Core.Path.{_≡_, refl, sym, ap, subst}
 use mathlib.Core.Logic.{_⊎_, inl, inr}
-use Prim.Native.Nat.{ℕ, zero, suc, _+_, _-_, _*_, _/_, _^_, _≤_, _<_}
-use native.Mathlib.Nat.{le-trans, lt-of-le-of-lt, lt-irrefl, le-of-mul-le-mul-right, mul-le-mul, mul-le-mul-right, mul-pos, div-mul-le-self, le-div-iff-mul-le, zero-lt-suc, le-antisymm, eq-or-lt-of-le}
+use Prim.Native.Nat.{ℕ, zero, suc, _+_, _*_, _/_, _^_, _≤_, _<_}
+use native.Mathlib.Nat.{le-trans, lt-of-le-of-lt, le-of-mul-le-mul-right, mul-le-mul-right, mul-pos, div-mul-le-self, le-div-iff-mul-le, zero-lt-suc, le-antisymm, eq-or-lt-of-le}
 use native.Mathlib.Omega.{arith}
-use mathlib.Core.Bool.{Bool, true, false, not}
+use mathlib.Core.Bool.{Bool, true, false}
 use lib.IntN.{ℤ, pos}
-use lib.Dec.{T, T-not, eqb, eqb→eq, eqb-refl}
+use lib.Dec.{T, eqb, eqb→eq, eqb-refl}
 use lib.Pow.{pow-pos}
 use lib.Ieee.{Float, nan, inf, fin, Format, binary32, binary64, low, up, down, round, le}
 use lib.Ieee.Fits.{up-pos, down-pos}
@@ -15,7 +15,7 @@ use Rattle.rounding.specs.Root.{isqrt, rootOf, sqrtOf}
 use Rattle.rounding.specs.Steps.{Root}
 use Rattle.rounding.specs.Laws.Isqrt.{isqrt-root, sq-lt}
 use Rattle.rounding.specs.Laws.RootNearest.{over, rootOf-is, sqrt-pos}
-use Rattle.rounding.specs.Laws.Order.{IsNum, Le, le→Le, Le→le, Le-right, Le-trans, top}
+use Rattle.rounding.specs.Laws.Order.{IsNum, Le, le→Le, Le→le, Le-right, Le-trans, top, zeros}
 
 -- ---- the root of a fraction
 
@@ -80,12 +80,8 @@ zero-least f s e a d =
     let C : 0 < c = mul-pos (zero-lt-suc 1) (pow-pos (suc (low f))) in
     let A = 2 * isqrt (a * 4 ^ suc (low f) / d) + over (eqb (isqrt (a * 4 ^ suc (low f) / d) * isqrt (a * 4 ^ suc (low f) / d) * d) (a * 4 ^ suc (low f))) in
     rw (rootOf-is f a d)
-    (Le-trans (fin s 0 e) nought (round f false A c) (zeros s)
+    (Le-trans (fin s 0 e) nought (round f false A c) (zeros s e false (pos 0))
     (le→Le nought (round f false A c) (subst (λ (x : Float). T (le x (round f false A c))) (round-nought f) (round-mono f 0 1 A c (zero-lt-suc 0) C (omega arith)))))
-  where
-    zeros : (s : Bool) → Le (fin s 0 e) nought
-    zeros false = omega arith
-    zeros true = omega arith
 
 sqrt-zero : (f : Format) (s : Bool) (e : ℤ) → sqrtOf f (fin s 0 e) ≡ fin s 0 e
 unfolding sqrtOf

@@ -1,22 +1,25 @@
 -- A root against a constant, with no root taken: a test that grows with the root is one comparison of the number with a constant c (`edge`). To know c, one shows two
 -- computed cases: the test holds at c's root, and fails at that of the number before c. Assumes nothing.
-use mathlib.Core.Logic.{_⊎_, inl, inr}
+use mathlib.Core.Logic.{inl, inr}
 use mathlib.Core.Path.{_≡_, refl, sym, ap, _∙_, subst}
 use Prim.Native.Nat.{ℕ, zero, suc, _+_, _-_, _*_, _^_, _≤_, _<_}
-use native.Mathlib.Nat.{lt-of-mul-lt-mul-right, mul-le-mul-right, mul-lt-mul-of-pos-right, mul-assoc, mul-pos, zero-lt-suc}
+use native.Mathlib.Nat.{lt-of-mul-lt-mul-right, mul-le-mul-right, mul-lt-mul-of-pos-right, mul-assoc, zero-lt-suc}
 use native.Mathlib.Omega.{arith}
 use mathlib.Core.Bool.{Bool, true, false, not, _&&_}
-use lib.IntN.{ℤ, pos}
-use lib.Dec.{T, T-not, not-T, eqb, eqb→eq, leb, leb→le, nleb→lt}
+use lib.Dec.{T, T-not, not-T, leb, leb→le, nleb→lt}
 use lib.Pow.{pow-add, pow-pos, pow-mono}
-use lib.Ieee.{Float, nan, inf, fin, Format, prec, low, up, down, le, lt, fits}
-use lib.Ieee.Fits.{two, up-pos, down-pos}
-use lib.Ieee.Bits.{cond-no}
+use lib.Ieee.{Float, nan, inf, fin, Format, prec, low, le, lt, fits}
+use lib.Ieee.Fits.{two}
+use lib.Ieee.Bits.{is-true, is-false}
 use lib.Ieee.Exact.{HasValue}
 use lib.Ieee.Order.{le-of-values}
 use Rattle.rounding.specs.Root.{sqrtOf}
-use Rattle.rounding.specs.Laws.RootNearest.{Held, held}
-use Rattle.rounding.specs.Laws.Order.{IsNum, Le, le→Le, Le→le, le-trans, le-or-lt, lt→not-le, not-le→lt, lt-of-le-of-lt, lt-of-lt-of-le, nan-lt, nan-le, le-nan, lt-nan, T-of, not-T-of}
+use Rattle.rounding.specs.Width.{narrowOf}
+use Rattle.rounding.specs.Laws.Basics.{same-test}
+use Rattle.rounding.specs.Laws.Held.{held}
+use Rattle.rounding.specs.Laws.RootNearest.{sqrt-fin}
+use Rattle.rounding.specs.Laws.Order.{IsNum, le→Le, Le→le, le-trans, le-or-lt, lt→not-le, not-le→lt, lt-of-lt-of-le, nan-lt, nan-le, le-nan, lt-nan, T-of, not-T-of}
+use Rattle.rounding.specs.Laws.Width.{narrow-mono, narrow-num, narrow-nan}
 use Rattle.rounding.specs.Laws.RootOrder.{nought, sqrt-mono, root-number}
 
 -- ---- a test on floats that holds at a larger number where it holds at a smaller, and at no nan
@@ -69,10 +72,7 @@ no-root f (inf true) n = refl
 no-root f (inf false) n = absurd (n (Le→le nought (inf false) tt))
 no-root f (fin false m e) n = absurd (n (Le→le nought (fin false m e) (omega arith)))
 no-root f (fin true zero e) n = absurd (n (Le→le nought (fin true 0 e) (omega arith)))
-no-root f (fin true (suc m) e) n = cond-no (eqb (suc m) 0) (fin true (suc m) e) nan (not-T (eqb (suc m) 0) (λ t. some (eqb→eq (suc m) 0 t)))
-  where
-    some : suc m ≡ 0 → ⊥
-    some z = omega arith
+no-root f (fin true (suc m) e) n = sqrt-fin f true (suc m) e (zero-lt-suc m)
 
 nought-value : (c : Float) (a l : ℕ) → 0 < l → HasValue c false a l → T (le nought c)
 nought-value c a l L v = le-of-values nought c 0 1 a l (zero-lt-suc 0) L (refl, refl) v (omega arith)
@@ -109,61 +109,56 @@ module _ (f : Format) (u : Float → Bool) (r : Rising u) (c p : Float) (g : Edg
       above-nought : T (le nought c)
       above-nought = nought-value c (g .C * 2 ^ g .h) (2 ^ low f) (pow-pos (low f)) (g .here)
 
-      is-false : (b : Bool) → (T b → ⊥) → b ≡ false
-      is-false true n = absurd (n tt)
-      is-false false n = refl
-
-      is-true : (b : Bool) → T b → b ≡ true
-      is-true true n = refl
-      is-true false n = absurd n
-
-      yes : {a : Bool} → a ≡ true → T a
-      yes e = subst T (sym e) tt
-
-      no : {a : Bool} → a ≡ false → T a → ⊥
-      no e h = subst T e h
-
       go : (a b : Bool) → le nought x ≡ a → le c x ≡ b → u (sqrtOf f x) ≡ b
-      go true true z k = is-true (u (sqrtOf f x)) (r .rises (sqrtOf f c) (sqrtOf f x) (sqrt-mono f c x above-nought (yes k)) (yes (g .passes)))
-      go true false z k = is-false (u (sqrtOf f x)) (λ w. no (g .fails) (r .rises (sqrtOf f x) (sqrtOf f p) (sqrt-mono f x p (yes z) (down-to x t (yes z) (no k))) w))
-      go false true z k = absurd (no z (le-trans nought c x above-nought (yes k)))
-      go false false z k = ap u (no-root f x (no z)) ∙ r .none
+      go true true z k = is-true (u (sqrtOf f x)) (r .rises (sqrtOf f c) (sqrtOf f x) (sqrt-mono f c x above-nought (T-of k)) (T-of (g .passes)))
+      go true false z k = is-false (u (sqrtOf f x)) (not-T (u (sqrtOf f x)) (λ w. not-T-of (g .fails) (r .rises (sqrtOf f x) (sqrtOf f p) (sqrt-mono f x p (T-of z) (down-to x t (T-of z) (not-T-of k))) w)))
+      go false true z k = absurd (not-T-of z (le-trans nought c x above-nought (T-of k)))
+      go false false z k = ap u (no-root f x (not-T-of z)) ∙ r .none
 
--- ---- the four tests of a root against t
+-- ---- what may stand between the root and the constant: nothing, or a narrower format
 
-pub at-least : (t : Float) → Rising (λ v. le t v)
-at-least t = record { rises = λ v w h k. le-trans t v w k h; none = le-nan t }
+-- n keeps the order, and takes numbers to numbers and a nan to a nan
+pub record Keeps (n : Float → Float) : Type 0 where
+  pub order : (v w : Float) → T (le v w) → T (le (n v) (n w))
+  pub number : (v : Float) → IsNum v → IsNum (n v)
+  pub nan-of : n nan ≡ nan
 
-pub above : (t : Float) → Rising (λ v. lt t v)
-above t = record { rises = λ v w h k. lt-of-lt-of-le t v w k h; none = lt-nan t }
+pub as-it-is : Keeps (λ v. v)
+as-it-is = record { order = λ v w h. h; number = λ v h. h; nan-of = refl }
+
+pub narrowed : (f : Format) → Keeps (narrowOf f)
+narrowed f = record { order = narrow-mono f; number = narrow-num f; nan-of = narrow-nan f }
+
+-- ---- the tests of a root against t
+
+module _ (n : Float → Float) (k : Keeps n) (t : Float) where
+  pub at-least : Rising (λ v. le t (n v))
+  at-least = record { rises = λ v w h g. le-trans t (n v) (n w) g (k .order v w h); none = ap (λ (v : Float). le t v) (k .nan-of) ∙ le-nan t }
+
+  pub above : Rising (λ v. lt t (n v))
+  above = record { rises = λ v w h g. lt-of-lt-of-le t (n v) (n w) g (k .order v w h); none = ap (λ (v : Float). lt t v) (k .nan-of) ∙ lt-nan t }
 
 -- the other two hold where these fail, at a number that has a root
-same : (a b : Bool) → (T a → T b) → (T b → T a) → a ≡ b
-same true true p q = refl
-same true false p q = absurd (p tt)
-same false true p q = absurd (q tt)
-same false false p q = refl
-
 lt-not : (x y : Float) → IsNum x → IsNum y → lt x y ≡ not (le y x)
-lt-not x y p q = same (lt x y) (not (le y x)) (λ h. not-T (le y x) (lt→not-le x y h)) (λ h. not-le→lt x y p q (T-not (le y x) h))
+lt-not x y p q = same-test (lt x y) (not (le y x)) (λ h. not-T (le y x) (lt→not-le x y h)) (λ h. not-le→lt x y p q (T-not (le y x) h))
 
 le-not : (x y : Float) → IsNum x → IsNum y → le x y ≡ not (lt y x)
-le-not x y p q = same (le x y) (not (lt y x)) (λ h. not-T (lt y x) (λ k. lt→not-le y x k h)) (λ h. elim (le-or-lt x y p q) [ inl k ↦ k | inr k ↦ absurd (T-not (lt y x) h k) ])
+le-not x y p q = same-test (le x y) (not (lt y x)) (λ h. not-T (lt y x) (λ k. lt→not-le y x k h)) (λ h. elim (le-or-lt x y p q) [ inl k ↦ k | inr k ↦ absurd (T-not (lt y x) h k) ])
 
-module _ (f : Format) (t c p : Float) (n : IsNum t) (x : Float) (i : T (fits f x)) where
-  pub root-below : Edge f (λ v. le t v) c p → lt (sqrtOf f x) t ≡ le nought x && not (le c x)
+module _ (f : Format) (n : Float → Float) (k : Keeps n) (t c p : Float) (N : IsNum t) (x : Float) (i : T (fits f x)) where
+  pub root-below : Edge f (λ v. le t (n v)) c p → lt (n (sqrtOf f x)) t ≡ le nought x && not (le c x)
   root-below g = go (le nought x) refl
     where
-      go : (a : Bool) → le nought x ≡ a → lt (sqrtOf f x) t ≡ a && not (le c x)
-      go true z = lt-not (sqrtOf f x) t (root-number f x (T-of z)) n ∙ ap not (edge f (λ v. le t v) (at-least t) c p g x i)
-      go false z = ap (λ (v : Float). lt v t) (no-root f x (not-T-of z)) ∙ nan-lt t
+      go : (a : Bool) → le nought x ≡ a → lt (n (sqrtOf f x)) t ≡ a && not (le c x)
+      go true z = lt-not (n (sqrtOf f x)) t (k .number (sqrtOf f x) (root-number f x (T-of z))) N ∙ ap not (edge f (λ v. le t (n v)) (at-least n k t) c p g x i)
+      go false z = ap (λ (v : Float). lt (n v) t) (no-root f x (not-T-of z)) ∙ ap (λ (v : Float). lt v t) (k .nan-of) ∙ nan-lt t
 
-  pub root-at-most : Edge f (λ v. lt t v) c p → le (sqrtOf f x) t ≡ le nought x && not (le c x)
+  pub root-at-most : Edge f (λ v. lt t (n v)) c p → le (n (sqrtOf f x)) t ≡ le nought x && not (le c x)
   root-at-most g = go (le nought x) refl
     where
-      go : (a : Bool) → le nought x ≡ a → le (sqrtOf f x) t ≡ a && not (le c x)
-      go true z = le-not (sqrtOf f x) t (root-number f x (T-of z)) n ∙ ap not (edge f (λ v. lt t v) (above t) c p g x i)
-      go false z = ap (λ (v : Float). le v t) (no-root f x (not-T-of z)) ∙ nan-le t
+      go : (a : Bool) → le nought x ≡ a → le (n (sqrtOf f x)) t ≡ a && not (le c x)
+      go true z = le-not (n (sqrtOf f x)) t (k .number (sqrtOf f x) (root-number f x (T-of z))) N ∙ ap not (edge f (λ v. lt t (n v)) (above n k t) c p g x i)
+      go false z = ap (λ (v : Float). le (n v) t) (no-root f x (not-T-of z)) ∙ ap (λ (v : Float). le v t) (k .nan-of) ∙ nan-le t
 
 -- as a program asks: first whether c is reached
 pub reached : {v b : Bool} (a : Bool) → v ≡ a && not b → b ≡ true → false ≡ v

@@ -1,18 +1,15 @@
 -- `round` keeps the order of fractions with signs, in either format, overflow and zeros of both signs included. Assumes nothing.
-use mathlib.Core.Path.{_≡_, refl, sym, ap, _∙_, subst}
-use mathlib.Core.Logic.{_⊎_, inl, inr}
-use Prim.Native.Nat.{ℕ, zero, suc, _+_, _-_, _*_, _/_, _^_, _≤_, _<_}
-use native.Mathlib.Nat.{zero-mul, mul-pos, eq-zero-or-pos, le-of-mul-le-mul-right}
+use mathlib.Core.Path.{_≡_, refl, sym, subst}
+use Prim.Native.Nat.{ℕ, zero, suc, _+_, _*_, _^_, _≤_, _<_}
+use native.Mathlib.Nat.{zero-mul, le-of-mul-le-mul-right}
 use native.Mathlib.Omega.{arith}
-use mathlib.Core.Bool.{Bool, true, false, not, _&&_, _||_, cond, true≢false}
-use lib.IntN.{ℤ}
+use mathlib.Core.Bool.{Bool, true, false, not, cond, true≢false}
 use lib.Dec.{T, ltb}
 use lib.Pow.{pow-pos}
 use lib.Ieee.{Float, nan, inf, fin, Format, prec, emax, low, up, down, odd, units, round, le, neg}
-use lib.Ieee.Fits.{up-pos, down-pos, round-is}
 use lib.Ieee.Exact.{HasValue, round-exact}
-use lib.Ieee.Order.{round-mono, transfer}
-use Rattle.rounding.specs.Laws.Signed.{pp, nn, Leq, Cross, scaled, unscaled, cross-trans}
+use lib.Ieee.Order.{round-mono}
+use Rattle.rounding.specs.Laws.Signed.{Cross, cross-trans}
 use Rattle.rounding.specs.Laws.Order.{IsNum, Le, le→Le, Le→le, bottom}
 
 -- ---- negation

@@ -1,17 +1,16 @@
 -- A sum grows with each of its terms, and a difference x - y grows with x and shrinks as y grows, wherever the results are no nan. Assumes nothing.
-use mathlib.Core.Path.{_≡_, refl, sym, ap, _∙_, subst}
-use mathlib.Core.Logic.{_⊎_, inl, inr}
-use Prim.Native.Nat.{ℕ, zero, suc, _+_, _-_, _*_, _≤_, _<_}
+use mathlib.Core.Path.{_≡_, refl, ap}
+use Prim.Native.Nat.{ℕ, _+_, _-_, _*_, _≤_, _<_}
 use native.Mathlib.Nat.{mul-pos, mul-le-mul-right}
 use native.Mathlib.Omega.{arith}
-use mathlib.Core.Bool.{Bool, true, false, not, _&&_, Bool·beq, cond}
+use mathlib.Core.Bool.{Bool, true, false, not, cond}
 use lib.IntN.{ℤ}
 use lib.Dec.{T, ltb, ltb→lt, nltb→le}
 use lib.Ieee.{Float, nan, inf, fin, Format, up, down, round, sum, add, sub, neg, le}
-use lib.Ieee.Fits.{up-pos, down-pos}
+use lib.Ieee.Fits.{down-pos}
 use lib.Ieee.Scale.{finite}
 use Rattle.rounding.specs.Laws.Signed.{pp, nn, Cross, pp-mul, nn-mul}
-use Rattle.rounding.specs.Laws.Order.{IsNum, Le, le→Le, Le→le, bottom, top, le-bottom, le-top, le-trans, le-refl}
+use Rattle.rounding.specs.Laws.Order.{IsNum, Le, le→Le, le-bottom, le-top, le-trans, le-refl}
 use Rattle.rounding.specs.Laws.Rounding.{neg-anti, round-order, round-num}
 
 -- ---- `sum` rounds the number ±z / c, which is ±a / c + ±b / c

@@ -1,4 +1,4 @@
--- `rounding::guess` meets its contract: its numbers fit, and it is not 0. Assumes nothing.
+-- `rounding::root::guess` meets its contract: its numbers fit, and it is not 0. Assumes nothing.
 use borrow.Author.Needs.{needs}
 use Prim.Native.Nat.{ℕ, _+_, _-_, _*_, _/_, _^_, _≤_}
 use native.Mathlib.Nat.{div-le-self}

@@ -1,4 +1,4 @@
--- `rounding::root_bits` meets its contract: the fields of the pattern are those of `proofs/Fields.antt`. Assumes nothing.
+-- `rounding::root::root_bits` meets its contract: the fields of the pattern are those of `proofs/Fields.antt`. Assumes nothing.
 use mathlib.Core.Path.{_≡_, sym, ap, _∙_, subst}
 use Prim.Native.Nat.{ℕ, suc, _+_, _-_, _*_, _/_, _%_, _^_, _≤_, _<_}
 use native.Mathlib.Omega.{arith}
@@ -14,9 +14,6 @@ use Rattle.rounding.proofs.RootScaled.{Bounds, bounds}
 use Rattle.rounding.proofs.Fields.{lead-is, digits-is, sqrt-low, sqrt-mid}
 use Rattle.rounding.proofs.root.root_bits.Statement.{statement}
 use Rattle.rounding.proofs.root.root_bits.Tie as tie
-use Rattle.rounding.proofs.root.root_bits.Reads as reads
-use Rattle.rounding.proofs.root.root_bits.Lts as lts
-use Rattle.rounding.proofs.root.root_of.Reads as root-of-reads
 
 known : (c : tie.Start) → Bounds (c .args .p) (c .args .e)
 known c = bounds (c .args .p) (c .args .e) (c .pre .0)

@@ -1,4 +1,4 @@
--- `rounding::root_digits` meets its contract, at each of the two widths. Assumes nothing.
+-- `rounding::root::root_digits` meets its contract, at each of the two widths. Assumes nothing.
 use mathlib.Core.Path.{_≡_}
 use Prim.Native.Nat.{_*_, _^_, _≤_, _<_}
 use native.Mathlib.Omega.{arith}

@@ -1,4 +1,4 @@
--- `rounding::root_from` meets its contract. The first loop ends at an r whose square is at most n, and the second keeps that until one more is too much.
+-- `rounding::root::root_from` meets its contract. The first loop ends at an r whose square is at most n, and the second keeps that until one more is too much.
 -- Assumes nothing.
 use Prim.Native.Nat.{_-_, _*_, _^_, _≤_, _<_}
 use native.Mathlib.Omega.{arith}

@@ -1,4 +1,4 @@
--- `rounding::root_of` meets its contract: what it works out is `proofs/Scaled.antt`'s, and the law of it `proofs/Law.antt`'s. Assumes nothing.
+-- `rounding::root::root_of` meets its contract: what it works out is `proofs/RootScaled.antt`, and the law of it `proofs/RootLaw.antt`. Assumes nothing.
 use Prim.Native.Nat.{ℕ, _+_, _-_, _*_, _/_, _%_, _^_, _≤_, _<_}
 use native.Mathlib.Omega.{arith}
 use native.Mathlib.Nat.{mul-le-mul, le-trans, lt-of-lt-of-le}
@@ -9,9 +9,6 @@ use lib.Ieee.{hid, ones, prec, emax}
 use Rattle.rounding.proofs.RootScaled.{Bounds, bounds, Length, length, shift-is, enough, radicand, answer, root-small}
 use Rattle.rounding.proofs.root.root_of.Statement.{statement}
 use Rattle.rounding.proofs.root.root_of.Tie as tie
-use Rattle.rounding.proofs.root.root_of.Reads as reads
-use Rattle.rounding.proofs.root.root_of.Lts as lts
-use Rattle.rounding.proofs.root.root_digits.Reads as root-digits-reads
 
 known : (c : tie.Start) → Bounds (c .args .p) (c .args .e)
 known c = bounds (c .args .p) (c .args .e) (c .pre .0)

@@ -1,4 +1,4 @@
--- `rounding::root_wide` meets its contract: the laws are those of `proofs/Halves.antt`. Assumes nothing.
+-- `rounding::root::root_wide` meets its contract: the laws are those of `proofs/Halves.antt`. Assumes nothing.
 use borrow.Author.Needs.{needs}
 use Prim.Native.Nat.{_-_, _*_, _/_, _%_, _^_}
 use native.Mathlib.Omega.{arith}

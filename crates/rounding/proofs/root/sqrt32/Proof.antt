@@ -1,4 +1,4 @@
--- `rounding::sqrt32` meets its contract: each case is a law of `proofs/Fields.antt`, at `binary32`. Assumes nothing.
+-- `rounding::root::sqrt32` meets its contract: each case is a law of `proofs/Fields.antt`, at `binary32`. Assumes nothing.
 use borrow.Author.Needs.{needs}
 use mathlib.Core.Path.{_≡_, refl, sym, ap, _∙_, subst}
 use mathlib.Core.Logic.{_≢_}
@@ -14,9 +14,6 @@ use Rattle.rounding.specs.Steps.{Rooted}
 use Rattle.rounding.proofs.Fields.{no-nan, nan-root, zero-root, inf-root, neg-root, some-bits, result-no-nan}
 use Rattle.rounding.proofs.root.sqrt32.Statement.{statement}
 use Rattle.rounding.proofs.root.sqrt32.Tie as tie
-use Rattle.rounding.proofs.root.sqrt32.Reads as reads
-use Rattle.rounding.proofs.root.sqrt32.Lts as lts
-use Rattle.rounding.proofs.root.root_bits.Reads as root-bits-reads
 
 -- what owning the float tells: the format holds it
 held : (c : tie.Start) → T (fits binary32 (c .args .x))

@@ -1,4 +1,4 @@
--- `rounding::whole::whole32` meets its contract: each case is a law of `proofs/Signed.antt`, at `binary32`. Assumes nothing.
+-- `rounding::whole::whole32` meets its contract: each case is a law of `proofs/Sign.antt`, at `binary32`. Assumes nothing.
 use mathlib.Core.Path.{_≡_, refl, sym, ap, _∙_, subst}
 use mathlib.Core.Logic.{_≢_}
 use mathlib.Core.Bool.{Bool, true, false, not}
@@ -15,9 +15,6 @@ use Rattle.rounding.proofs.Fields.{no-nan, result-no-nan}
 use Rattle.rounding.proofs.Sign.{nan-whole, inf-whole, sized, sized-lt, signed, no-nan-bits}
 use Rattle.rounding.proofs.whole.whole32.Statement.{statement}
 use Rattle.rounding.proofs.whole.whole32.Tie as tie
-use Rattle.rounding.proofs.whole.whole32.Reads as reads
-use Rattle.rounding.proofs.whole.whole32.Lts as lts
-use Rattle.rounding.proofs.whole.whole_bits.Reads as whole-bits-reads
 
 -- what owning the float tells: the format holds it
 held : (c : tie.Start) → T (fits binary32 (c .args .x))

@@ -16,10 +16,6 @@ use Rattle.rounding.proofs.Cut.{unchanged, cut, stays, rises, moves-at,
 use borrow.Author.Needs.{needs}
 use Rattle.rounding.proofs.whole.whole_bits.Statement.{statement}
 use Rattle.rounding.proofs.whole.whole_bits.Tie as tie
-use Rattle.rounding.proofs.whole.whole_bits.Reads as reads
-use Rattle.rounding.proofs.whole.whole_bits.Lts as lts
-use Rattle.rounding.proofs.whole.limit.Reads as limit-reads
-use Rattle.rounding.proofs.whole.step.Reads as step-reads
 
 known : (c : tie.Start) → Bounds (c .args .p) (c .args .e)
 known c = bounds (c .args .p) (c .args .e) (c .pre .0)

@@ -1,4 +1,4 @@
--- `rounding::narrow::narrow` meets its contract: each case is a law of `proofs/Thin.antt`. Assumes nothing.
+-- `rounding::width::narrow` meets its contract: each case is a law of `proofs/Narrowing.antt`. Assumes nothing.
 use mathlib.Core.Path.{_≡_, refl, sym, ap, _∙_, subst}
 use mathlib.Core.Bool.{Bool, true, false, not}
 use Prim.Native.Nat.{ℕ, _<_, _≤_, _+_, _-_, _*_, _%_, _^_}
@@ -14,9 +14,6 @@ use Rattle.rounding.proofs.Sign.{sized, sized-lt}
 use Rattle.rounding.proofs.Narrowing.{nan-thin, inf-thin, signed-thin, no-nan-most}
 use Rattle.rounding.proofs.width.narrow.Statement.{statement}
 use Rattle.rounding.proofs.width.narrow.Tie as tie
-use Rattle.rounding.proofs.width.narrow.Reads as reads
-use Rattle.rounding.proofs.width.narrow.Lts as lts
-use Rattle.rounding.proofs.width.narrow_bits.Reads as narrow-bits-reads
 
 -- what owning the float tells: the format holds it
 held : (c : tie.Start) → T (fits binary64 (c .args .x))

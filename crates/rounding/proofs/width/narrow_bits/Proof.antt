@@ -1,4 +1,4 @@
--- `rounding::narrow::narrow_bits` meets its contract: the law of each way out is `proofs/Pack.antt`'s. Assumes nothing.
+-- `rounding::width::narrow_bits` meets its contract: the law of each way out is `proofs/Pack.antt`'s. Assumes nothing.
 use mathlib.Core.Path.{_≡_, refl, sym, ap, _∙_, subst}
 use mathlib.Core.Bool.{Bool, cond}
 use Prim.Native.Nat.{ℕ, suc, _+_, _-_, _*_, _/_, _%_, _^_, _≤_, _<_, min}
@@ -12,10 +12,6 @@ use Rattle.rounding.proofs.Pack.{packs-high, packs-low, closest-le, clo
 use borrow.Author.Needs.{needs}
 use Rattle.rounding.proofs.width.narrow_bits.Statement.{statement}
 use Rattle.rounding.proofs.width.narrow_bits.Tie as tie
-use Rattle.rounding.proofs.width.narrow_bits.Reads as reads
-use Rattle.rounding.proofs.width.narrow_bits.Lts as lts
-use Rattle.rounding.proofs.width.before.Reads as before-reads
-use Rattle.rounding.proofs.width.nearest_even.Reads as nearest-even-reads
 
 abbrev shift : ℕ → ℕ
 shift b = b / 2 ^ 52 - 1

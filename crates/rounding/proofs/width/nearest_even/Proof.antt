@@ -1,4 +1,4 @@
--- `rounding::narrow::nearest_even` meets its contract. Assumes nothing.
+-- `rounding::width::nearest_even` meets its contract. Assumes nothing.
 use mathlib.Core.Path.{_≡_, refl, sym, ap, _∙_, subst}
 use Prim.Native.Nat.{ℕ, suc, _+_, _-_, _*_, _/_, _%_, _^_, _≤_, _<_}
 use native.Mathlib.Nat.{one-mul, pow-succ'}
@@ -10,8 +10,6 @@ use Rattle.rounding.proofs.Pack.{even-up}
 use borrow.Author.Needs.{needs}
 use Rattle.rounding.proofs.width.nearest_even.Statement.{statement}
 use Rattle.rounding.proofs.width.nearest_even.Tie as tie
-use Rattle.rounding.proofs.width.nearest_even.Reads as reads
-use Rattle.rounding.proofs.width.nearest_even.Lts as lts
 
 weight : (c : tie.Start) → (1 * 2 ^ (c .args .s - 1)) % 2 ^ 64 ≡ 2 ^ (c .args .s - 1)
 weight c = shl-exact {a = 1} 1 (c .args .s - 1) 64 (lit< tt) (omega (arith, c .pre .1 .1)) ∙ one-mul (2 ^ (c .args .s - 1))

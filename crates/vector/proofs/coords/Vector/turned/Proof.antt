@@ -1,0 +1,43 @@
+-- `vector::coords::Vector::turned` meets its contract, call by call. Assumes nothing.
+use borrow.Author.Needs.{needs}
+use Rattle.vector.specs.Coords.{turnedOf}
+use Rattle.vector.proofs.coords.Vector.turned.Statement.{statement}
+use Rattle.vector.proofs.coords.Vector.turned.Tie as tie
+
+dot-requires : tie.Need-dot-requires
+dot-requires c κs = search needs
+
+mul-requires : tie.Need-mul-requires
+mul-requires c κs = search needs
+
+mul-requires-2 : tie.Need-mul-requires-2
+mul-requires-2 c κs = search needs
+
+cross-requires : tie.Need-cross-requires
+cross-requires c κs = search needs
+
+mul-requires-3 : tie.Need-mul-requires-3
+mul-requires-3 c κs = search needs
+
+add-requires : tie.Need-add-requires
+add-requires c κs = search needs
+
+add-requires-2 : tie.Need-add-requires-2
+add-requires-2 c κs = search needs
+
+returns : tie.Need-returns
+unfolding turnedOf
+returns c = rw (c .add2 .ensures, c .before .add .ensures, c .before .before .mul3 .ensures, c .before .before .before .cross .ensures, c .before .before .before .before .mul2 .ensures, c .before .before .before .before .before .mul .ensures, c .before .before .before .before .before .before .dot .ensures)
+
+pub turned-spec : {M : Type 1} → statement M
+turned-spec =
+    tie.close
+    (tie.spec
+    dot-requires
+    mul-requires
+    mul-requires-2
+    cross-requires
+    mul-requires-3
+    add-requires
+    add-requires-2
+    returns)
