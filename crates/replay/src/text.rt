@@ -1,50 +1,9 @@
 // The lines that are printed.
+use crate::names::name;
 use libc::STDOUT_FILENO;
 
 fn number(n: u64) {
     io::print_decimal(STDOUT_FILENO, n);
-}
-
-// The name of an operation, as in the list's maker.
-fn name(op: u32) {
-    let out = STDOUT_FILENO;
-    match op {
-        0 => io::write_all(out, b"sqrt32"),
-        1 => io::write_all(out, b"floor32"),
-        2 => io::write_all(out, b"ceil32"),
-        3 => io::write_all(out, b"round32"),
-        4 => io::write_all(out, b"sqrt64"),
-        5 => io::write_all(out, b"floor64"),
-        6 => io::write_all(out, b"ceil64"),
-        7 => io::write_all(out, b"round64"),
-        8 => io::write_all(out, b"narrow"),
-        9 => io::write_all(out, b"widen"),
-        10 => io::write_all(out, b"min32"),
-        11 => io::write_all(out, b"max32"),
-        12 => io::write_all(out, b"min64"),
-        13 => io::write_all(out, b"max64"),
-        14 => io::write_all(out, b"clamp32"),
-        15 => io::write_all(out, b"clamp64"),
-        16 => io::write_all(out, b"count32"),
-        17 => io::write_all(out, b"count64"),
-        18 => io::write_all(out, b"int64"),
-        19 => io::write_all(out, b"hypot"),
-        100 => io::write_all(out, b"bits32"),
-        101 => io::write_all(out, b"bits64"),
-        102 => io::write_all(out, b"stored"),
-        103 => io::write_all(out, b"abs32"),
-        104 => io::write_all(out, b"abs64"),
-        105 => io::write_all(out, b"is_finite32"),
-        106 => io::write_all(out, b"is_finite64"),
-        107 => io::write_all(out, b"root_below_micro"),
-        108 => io::write_all(out, b"root_above_micro"),
-        109 => io::write_all(out, b"root_above_tenth"),
-        110 => io::write_all(out, b"squares"),
-        111 => io::write_all(out, b"hypot_above_milli"),
-        112 => io::write_all(out, b"hypot_at_most_milli"),
-        _ => io::write_all(out, b"unknown operation"),
-    }
-    ;
 }
 
 // The numbers that a line gives.
