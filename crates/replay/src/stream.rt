@@ -69,17 +69,15 @@ pub fn put(list: &mut [u32], i: usize, w: u32)
     }
 }
 
-// The next word. The buffer's length is a multiple of 4, and a read ends short only with the input, so
-// no word lies across two reads.
-pub fn next(bytes: &mut [u8], p: Place) -> Step {
-    let read = std::num::wrapping_add_u64(p.read, 1);
+// The next word of those in the buffer, if one is left there.
+fn buffered(bytes: &[u8], p: Place) -> Step {
     if p.at < p.held {
         let word = word_at(bytes, p.at);
         let place = Place {
             at: p.at + 1,
             held: p.held,
-            spare: 0,
-            read: read,
+            spare: p.spare,
+            read: std::num::wrapping_add_u64(p.read, 1),
         };
         return Step {
             found: true,
@@ -87,32 +85,39 @@ pub fn next(bytes: &mut [u8], p: Place) -> Step {
             place: place,
         };
     }
+    Step {
+        found: false,
+        word: 0,
+        place: p,
+    }
+}
+
+// Fills the buffer anew. Its length is a multiple of 4, and a read ends short only with the input, so no
+// word lies across two reads.
+fn fill(bytes: &mut [u8], p: Place) -> Place {
     let got = io::read_full(0, bytes);
-    if got < 4 {
-        let place = Place {
-            at: 0,
-            held: 0,
-            spare: got,
-            read: p.read,
-        };
+    Place {
+        at: 0,
+        held: got / 4,
+        spare: got % 4,
+        read: p.read,
+    }
+}
+
+// The next word. Where bytes are left over the input is at its end.
+pub fn next(bytes: &mut [u8], p: Place) -> Step {
+    if p.at < p.held {
+        return buffered(bytes, p);
+    }
+    if p.spare > 0 {
         return Step {
             found: false,
             word: 0,
-            place: place,
+            place: p,
         };
     }
-    let word = word_at(bytes, 0);
-    let place = Place {
-        at: 1,
-        held: got / 4,
-        spare: got % 4,
-        read: read,
-    };
-    Step {
-        found: true,
-        word: word,
-        place: place,
-    }
+    let q = fill(bytes, p);
+    buffered(bytes, q)
 }
 
 // Reads n words to the start of `list`.
