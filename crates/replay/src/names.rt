@@ -1,0 +1,76 @@
+// The names of the operations, each where the operation's number says.
+use libc::STDOUT_FILENO;
+
+// Writes the letter c if it is of word k: n is how many spaces stand before it. The answer is how many
+// stand before the next letter.
+fn letter(c: u8, n: u32, k: u32) -> u32 {
+    if c == b' ' {
+        return std::num::wrapping_add_u32(n, 1);
+    }
+    if n == k {
+        io::write_all(STDOUT_FILENO, &[c]);
+    }
+    n
+}
+
+// Writes word k of a text, from 0.
+fn word_of(text: &[u8], k: u32) {
+    let mut n: u32 = 0;
+    let mut i: usize = 0;
+    while i < text.len() {
+        n = letter(text[i], n, k);
+        i += 1;
+    }
+}
+
+// The operations of the rounding layer that the oracle has.
+fn rounding_name(op: u32) {
+    if op < 10 {
+        word_of(
+            b"sqrt32 floor32 ceil32 round32 sqrt64 floor64 ceil64 round64 narrow widen",
+            op,
+        );
+        return;
+    }
+    word_of(
+        b"min32 max32 min64 max64 clamp32 clamp64 count32 count64 int64 hypot",
+        op - 10,
+    );
+}
+
+// The other checks of the rounding layer.
+fn check_name(k: u32) {
+    if k < 7 {
+        word_of(
+            b"bits32 bits64 stored abs32 abs64 is_finite32 is_finite64",
+            k,
+        );
+        return;
+    }
+    let k = k - 7;
+    if k < 4 {
+        word_of(
+            b"root_below_micro root_above_micro root_above_tenth squares",
+            k,
+        );
+        return;
+    }
+    word_of(b"hypot_above_milli hypot_at_most_milli", k - 4);
+}
+
+// Writes the name of an operation.
+pub fn name(op: u32) {
+    if op < 20 {
+        rounding_name(op);
+        return;
+    }
+    if op < 100 {
+        io::write_all(STDOUT_FILENO, b"unknown operation");
+        return;
+    }
+    if op > 112 {
+        io::write_all(STDOUT_FILENO, b"unknown operation");
+        return;
+    }
+    check_name(op - 100);
+}
