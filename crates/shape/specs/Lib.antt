@@ -3,4 +3,7 @@ pub mod Gather
 pub mod Memory
 pub mod Refusal
 pub mod Lists
+pub mod Double
+pub mod Elevation
+pub mod ElevationSteps
 pub mod Laws

@@ -3,12 +3,17 @@
 // left heights, -1 and down the right heights. A number of a line that may be below 0 is held with
 // 2,048 added, so that it is a count.
 ghost use mathlib.Core.Path.{_≡_};
-ghost use Prim.Native.Nat.{_+_, _-_, _*_, _/_, _^_, _≤_, _<_};
+ghost use mathlib.Core.Bool.{_&&_, _||_, not};
+ghost use Prim.Native.Nat.{ℕ, _+_, _-_, _*_, _/_, _^_, _≤_, _<_, max};
+ghost use lib.Dec.{ltb};
 ghost use lib.ListN.{length};
-ghost use lib.IntN.{subℕ};
-use crate::lists::any_bad;
+ghost use lib.IntN.{ℤ, subℕ};
+ghost use lib.Ieee.{Float, binary64};
+ghost use Rattle.shape.specs.Double.{_⊞_, _⊟_, _⊠_, _⧄_};
+ghost use Rattle.shape.specs.Refusal.{found};
+ghost use Rattle.shape.specs.Elevation.{nth, part, rowOf, columnOf, rowCount, valueOf, lineOf, straightOf, slopesOf, acrossOf, firstOf, secondOf, frameOf, entryOf, mulOf, coefficientsOf, surfaceOf, inSquare, triedAt, snapOf, within, widestOf, heightOf, locateOf, gridFault, findingOf, answered, heightAnswer, heightAtAnswer};
+ghost use Rattle.shape.specs.ElevationSteps.{oddRuns, passOf, faultOf, Placed, Near, Limits};
 use crate::lists::any_long;
-use crate::lists::record_word;
 use crate::refusal::Check;
 use crate::refusal::Refusal;
 use rounding::bits::from_bits64;
@@ -41,13 +46,17 @@ pub enum Spot {
     At(f64),
 }
 
+// The part of a list from start to end.
+pub struct Run {
+    pub start: usize,
+    pub end: usize,
+}
+
 // A row of the grid: its height on the line, and its runs of the left and of the right heights.
 pub struct GridRow {
     pub center: f64,
-    pub left_start: usize,
-    pub left_end: usize,
-    pub right_start: usize,
-    pub right_end: usize,
+    pub left: Run,
+    pub right: Run,
 }
 
 // Four points of a row one after another, the middle two at a square's edge.
@@ -66,7 +75,7 @@ pub struct Tilt {
 
 // The slopes across a row that may lack the edge's ends.
 pub enum Across {
-    Missing,
+    Bare,
     Both(Tilt),
 }
 
@@ -91,11 +100,12 @@ pub struct Station {
 // ---- the points of the grid
 
 // Height n of a run, from the line outward.
-fn side(xs: &[f64], start: usize, end: usize, n: usize) -> Spot
-    requires { ⌜ (start < 2 ^ 32) × (n < 2 ^ 32) ⌝ }
+fn side(xs: &[f64], run: Run, n: usize) -> Spot
+    requires { ⌜ (run .start < 2 ^ 32) × (n < 2 ^ 32) ⌝ }
+    ensures { λ r. ⌜ r ≡ nth (part (now (xs .entry)) run) n ⌝ }
 {
-    let k = start + n;
-    if k < end {
+    let k = run.start + n;
+    if k < run.end {
         if k < xs.len() {
             return Spot::At(xs[k]);
         }
@@ -106,20 +116,24 @@ fn side(xs: &[f64], start: usize, end: usize, n: usize) -> Spot
 impl GridRow {
     // The height in column j - 2048, if the row has one there.
     fn at(self, left: &[f64], right: &[f64], j: usize) -> Spot
-        requires { ⌜ (self .left_start < 2 ^ 32) × (self .right_start < 2 ^ 32) × (j < 2 ^ 32) ⌝ }
+        requires { ⌜ (self .left .start < 2 ^ 32) × (self .right .start < 2 ^ 32) × (j < 2 ^ 32) ⌝ }
+        ensures { λ r. ⌜ r ≡ columnOf (now (left .entry)) (now (right .entry)) self (subℕ j 2048) ⌝ }
     {
         if j == 2048 {
             return Spot::At(self.center);
         }
         if 2048 < j {
-            return side(left, self.left_start, self.left_end, j - 2049);
+            let run = self.left;
+            return side(left, run, j - 2049);
         }
-        side(right, self.right_start, self.right_end, 2047 - j)
+        let run = self.right;
+        side(right, run, 2047 - j)
     }
 
     // The heights in columns j - 2049 to j - 2046.
     fn line(self, left: &[f64], right: &[f64], j: usize) -> Line
-        requires { ⌜ (self .left_start < 2 ^ 32) × (self .right_start < 2 ^ 32) × (0 < j) × (j < 2 ^ 31) ⌝ }
+        requires { ⌜ (self .left .start < 2 ^ 32) × (self .right .start < 2 ^ 32) × (0 < j) × (j < 2 ^ 31) ⌝ }
+        ensures { λ r. ⌜ r ≡ lineOf (columnOf (now (left .entry)) (now (right .entry)) self) (subℕ j 2048) ⌝ }
     {
         Line {
             before: self.at(left, right, j - 1),
@@ -130,28 +144,34 @@ impl GridRow {
     }
 }
 
-// Row i of the grid.
+// Row i of the grid, which has it.
 fn row(rows: &[u32], i: usize) -> GridRow
-    requires { ⌜ i < 2 ^ 32 ⌝ }
+    requires { ⌜ 6 * i + 5 < length (now rows) ⌝ }
+    ensures { λ r. ⌜ (r ≡ rowOf (now (rows .entry)) i) × (r .left .start < 2 ^ 32) × (r .right .start < 2 ^ 32) ⌝ }
 {
-    let low = record_word(rows, 6, i, 0) as u32;
-    let high = record_word(rows, 6, i, 1) as u32;
+    let at = 6 * i;
     GridRow {
-        center: from_bits64(low, high),
-        left_start: record_word(rows, 6, i, 2),
-        left_end: record_word(rows, 6, i, 3),
-        right_start: record_word(rows, 6, i, 4),
-        right_end: record_word(rows, 6, i, 5),
+        center: from_bits64(rows[at], rows[at + 1]),
+        left: Run {
+            start: wide(rows[at + 2]),
+            end: wide(rows[at + 3]),
+        },
+        right: Run {
+            start: wide(rows[at + 4]),
+            end: wide(rows[at + 5]),
+        },
     }
 }
 
 // The heights of row i - 2048 in columns j - 2049 to j - 2046.
 fn line_at(rows: &[u32], left: &[f64], right: &[f64], i: usize, j: usize) -> Line
     requires { ⌜ (0 < j) × (i < 2 ^ 31) × (j < 2 ^ 31) ⌝ }
+    ensures { λ r. ⌜ r ≡ lineOf (valueOf (now (rows .entry)) (now (left .entry)) (now (right .entry)) (subℕ i 2048)) (subℕ j 2048) ⌝ }
 {
     if 2048 <= i {
-        if i - 2048 < rows.len() / 6 {
-            return row(rows, i - 2048).line(left, right, j);
+        let k = i - 2048;
+        if 6 * k + 5 < rows.len() {
+            return row(rows, k).line(left, right, j);
         }
     }
     Line {
@@ -164,44 +184,62 @@ fn line_at(rows: &[u32], left: &[f64], right: &[f64], i: usize, j: usize) -> Lin
 
 // ---- a square's corners, slopes and twists
 
-// The slopes at b and c of four points a grid step apart: from the cubic through all four, or from the
-// line through b and c where a or d is missing.
-pub fn slopes(a: Spot, b: f64, c: f64, d: Spot) -> Tilt {
-    if let Spot::At(a) = a {
-        if let Spot::At(d) = d {
-            return Tilt {
-                first: (-2.0 * a - 3.0 * b + 6.0 * c - d) / 6.0,
-                second: (a - 6.0 * b + 3.0 * c + 2.0 * d) / 6.0,
-            };
-        }
-    }
+// The slopes of the line through b and c, a grid step apart.
+fn straight(b: f64, c: f64) -> Tilt
+    ensures { λ r. ⌜ r ≡ straightOf b c ⌝ }
+{
     Tilt {
         first: c - b,
         second: c - b,
     }
 }
 
-// The slopes across a row at its middle points, if it has them.
-pub fn across(line: Line) -> Across {
-    let first = line.first;
-    let second = line.second;
-    let Spot::At(b) = first else {
-        return Across::Missing;
+// The slopes at b and c of four points a grid step apart: from the cubic through all four, or from the
+// line through b and c where a or d is missing.
+pub fn slopes(a: Spot, b: f64, c: f64, d: Spot) -> Tilt
+    ensures { λ r. ⌜ r ≡ slopesOf a b c d ⌝ }
+{
+    let Spot::At(p) = a else {
+        return straight(b, c);
     };
-    let Spot::At(c) = second else {
-        return Across::Missing;
+    let Spot::At(q) = d else {
+        return straight(b, c);
     };
-    Across::Both(slopes(line.before, b, c, line.after))
+    Tilt {
+        first: (-2.0 * p - 3.0 * b + 6.0 * c - q) / 6.0,
+        second: (p - 6.0 * b + 3.0 * c + 2.0 * q) / 6.0,
+    }
 }
 
-fn first_of(x: Across) -> Spot {
+// The slopes across a row at its middle points, if it has them.
+pub fn row_slopes(line: Line) -> Across
+    ensures { λ r. ⌜ r ≡ acrossOf line ⌝ }
+{
+    let before = line.before;
+    let first = line.first;
+    let second = line.second;
+    let after = line.after;
+    let Spot::At(b) = first else {
+        return Across::Bare;
+    };
+    let Spot::At(c) = second else {
+        return Across::Bare;
+    };
+    Across::Both(slopes(before, b, c, after))
+}
+
+fn first_of(x: Across) -> Spot
+    ensures { λ r. ⌜ r ≡ firstOf x ⌝ }
+{
     let Across::Both(t) = x else {
         return Spot::Missing;
     };
     Spot::At(t.first)
 }
 
-fn second_of(x: Across) -> Spot {
+fn second_of(x: Across) -> Spot
+    ensures { λ r. ⌜ r ≡ secondOf x ⌝ }
+{
     let Across::Both(t) = x else {
         return Spot::Missing;
     };
@@ -210,58 +248,64 @@ fn second_of(x: Across) -> Spot {
 
 // ---- the surface over a square
 
-// The matrix that turns a square's corners, slopes and twists into its coefficients.
+// The matrix that turns a square's corners, slopes and twists into its coefficients, and the same
+// transposed.
 const A: [f64; 16] = [
     1.0, 0.0, 0.0, 0.0, 0.0, 0.0, 1.0, 0.0, -3.0, 3.0, -2.0, -1.0, 2.0, -2.0, 1.0, 1.0,
 ];
+const A_TRANSPOSED: [f64; 16] = [
+    1.0, 0.0, -3.0, 2.0, 0.0, 0.0, 3.0, -2.0, 0.0, 1.0, -2.0, 1.0, 0.0, 0.0, -1.0, 1.0,
+];
 
-fn dot(a: f64, b: f64, c: f64, d: f64, p: f64, q: f64, r: f64, s: f64) -> f64 {
-    a * p + b * q + c * r + d * s
-}
-
-pub fn mul(a: Patch, b: Patch) -> Patch {
+// Entry (r, c) of the product of a and b.
+fn entry(a: Patch, b: Patch, r: usize, c: usize) -> f64
+    requires { ⌜ (r < 4) × (c < 4) ⌝ }
+    ensures { λ x. ⌜ x ≡ entryOf (a .m) (b .m) r c ⌝ }
+{
     let x = a.m;
     let y = b.m;
-    Patch {
-        m: [
-            dot(x[0], x[1], x[2], x[3], y[0], y[4], y[8], y[12]),
-            dot(x[0], x[1], x[2], x[3], y[1], y[5], y[9], y[13]),
-            dot(x[0], x[1], x[2], x[3], y[2], y[6], y[10], y[14]),
-            dot(x[0], x[1], x[2], x[3], y[3], y[7], y[11], y[15]),
-            dot(x[4], x[5], x[6], x[7], y[0], y[4], y[8], y[12]),
-            dot(x[4], x[5], x[6], x[7], y[1], y[5], y[9], y[13]),
-            dot(x[4], x[5], x[6], x[7], y[2], y[6], y[10], y[14]),
-            dot(x[4], x[5], x[6], x[7], y[3], y[7], y[11], y[15]),
-            dot(x[8], x[9], x[10], x[11], y[0], y[4], y[8], y[12]),
-            dot(x[8], x[9], x[10], x[11], y[1], y[5], y[9], y[13]),
-            dot(x[8], x[9], x[10], x[11], y[2], y[6], y[10], y[14]),
-            dot(x[8], x[9], x[10], x[11], y[3], y[7], y[11], y[15]),
-            dot(x[12], x[13], x[14], x[15], y[0], y[4], y[8], y[12]),
-            dot(x[12], x[13], x[14], x[15], y[1], y[5], y[9], y[13]),
-            dot(x[12], x[13], x[14], x[15], y[2], y[6], y[10], y[14]),
-            dot(x[12], x[13], x[14], x[15], y[3], y[7], y[11], y[15]),
-        ],
-    }
+    let k = 4 * r;
+    x[k] * y[c] + x[k + 1] * y[4 + c] + x[k + 2] * y[8 + c] + x[k + 3] * y[12 + c]
 }
 
-pub fn transpose(a: Patch) -> Patch {
-    let x = a.m;
+pub fn mul(a: Patch, b: Patch) -> Patch
+    ensures { λ r. ⌜ r ≡ mulOf a b ⌝ }
+{
     Patch {
         m: [
-            x[0], x[4], x[8], x[12], x[1], x[5], x[9], x[13], x[2], x[6], x[10], x[14], x[3], x[7],
-            x[11], x[15],
+            entry(a, b, 0, 0),
+            entry(a, b, 0, 1),
+            entry(a, b, 0, 2),
+            entry(a, b, 0, 3),
+            entry(a, b, 1, 0),
+            entry(a, b, 1, 1),
+            entry(a, b, 1, 2),
+            entry(a, b, 1, 3),
+            entry(a, b, 2, 0),
+            entry(a, b, 2, 1),
+            entry(a, b, 2, 2),
+            entry(a, b, 2, 3),
+            entry(a, b, 3, 0),
+            entry(a, b, 3, 1),
+            entry(a, b, 3, 2),
+            entry(a, b, 3, 3),
         ],
     }
 }
 
 // The coefficients of the surface with the corners, slopes and twists f.
-pub fn coefficients(f: Patch) -> Patch {
+pub fn coefficients(f: Patch) -> Patch
+    ensures { λ r. ⌜ r ≡ coefficientsOf f ⌝ }
+{
     let a = Patch { m: A };
-    mul(mul(a, f), transpose(a))
+    let b = Patch { m: A_TRANSPOSED };
+    mul(mul(a, f), b)
 }
 
 // The height of the surface at (x, y): the sum of its terms, row by row.
-pub fn terms(p: Patch, x: f64, y: f64) -> f64 {
+pub fn terms(p: Patch, x: f64, y: f64) -> f64
+    ensures { λ r. ⌜ r ≡ surfaceOf p x y ⌝ }
+{
     let a = p.m;
     let x2 = x * x;
     let x3 = x * x * x;
@@ -286,13 +330,23 @@ pub fn terms(p: Patch, x: f64, y: f64) -> f64 {
 }
 
 // The corners, slopes and twists of the square whose corners q and r hold, between the rows p and w.
-fn frame(p: Line, q: Line, r: Line, w: Line, z00: f64, z01: f64, z10: f64, z11: f64) -> Patch {
-    let t0 = slopes(q.before, z00, z01, q.after);
-    let t1 = slopes(r.before, z10, z11, r.after);
-    let s0 = slopes(p.first, z00, z10, w.first);
-    let s1 = slopes(p.second, z01, z11, w.second);
-    let tp = across(p);
-    let tw = across(w);
+fn frame(p: Line, q: Line, r: Line, w: Line, z00: f64, z01: f64, z10: f64, z11: f64) -> Patch
+    ensures { λ x. ⌜ x ≡ frameOf p q r w z00 z01 z10 z11 ⌝ }
+{
+    let q0 = q.before;
+    let q3 = q.after;
+    let r0 = r.before;
+    let r3 = r.after;
+    let p1 = p.first;
+    let p2 = p.second;
+    let w1 = w.first;
+    let w2 = w.second;
+    let t0 = slopes(q0, z00, z01, q3);
+    let t1 = slopes(r0, z10, z11, r3);
+    let s0 = slopes(p1, z00, z10, w1);
+    let s1 = slopes(p2, z01, z11, w2);
+    let tp = row_slopes(p);
+    let tw = row_slopes(w);
     let st0 = slopes(first_of(tp), t0.first, t1.first, first_of(tw));
     let st1 = slopes(second_of(tp), t0.second, t1.second, second_of(tw));
     Patch {
@@ -307,6 +361,7 @@ fn frame(p: Line, q: Line, r: Line, w: Line, z00: f64, z01: f64, z10: f64, z11: 
 // corners.
 fn in_square(rows: &[u32], left: &[f64], right: &[f64], i: usize, x: f64, j: usize, y: f64) -> Spot
     requires { ⌜ (0 < i) × (0 < j) × (i < 2 ^ 30) × (j < 2 ^ 30) ⌝ }
+    ensures { λ r. ⌜ r ≡ inSquare (valueOf (now (rows .entry)) (now (left .entry)) (now (right .entry))) (subℕ i 2048) x (subℕ j 2048) y ⌝ }
 {
     let q = line_at(rows, left, right, i, j);
     let r = line_at(rows, left, right, i + 1, j);
@@ -335,16 +390,23 @@ fn in_square(rows: &[u32], left: &[f64], right: &[f64], i: usize, x: f64, j: usi
 // ---- the squares at a place
 
 // A number less than 1e-6 from a whole one snaps to it.
-fn snap(at: f64) -> f64 {
+fn snap(at: f64) -> f64
+    ensures { λ r. ⌜ r ≡ snapOf at ⌝ }
+{
     let near = round64(at);
     if abs64(at - near) < 1e-6 { near } else { at }
 }
 
 // Where a grid coordinate falls: the line at or below it, and how far past that.
-fn place(at: f64) -> Place {
+fn place_of(at: f64) -> Place
+    requires { ⌜ Near at ⌝ }
+    ensures { λ r. ⌜ Placed at r ⌝ }
+{
     let line = floor64(at);
+    let above = count64(line);
+    let below = count64(-line);
     Place {
-        line: (2048 + count64(line) - count64(-line)) as usize,
+        line: (2048 + above - below) as usize,
         part: at - line,
     }
 }
@@ -353,11 +415,12 @@ fn place(at: f64) -> Place {
 // else in the one below.
 fn in_row(rows: &[u32], left: &[f64], right: &[f64], i: usize, x: f64, column: Place) -> Spot
     requires { ⌜ (0 < i) × (i < 2 ^ 30) × (1 < column .line) × (column .line < 2 ^ 30) ⌝ }
+    ensures { λ r. ⌜ r ≡ triedAt (λ (j : ℤ) (y : Float). inSquare (valueOf (now (rows .entry)) (now (left .entry)) (now (right .entry))) (subℕ i 2048) x j y) (subℕ (column .line) 2048) (column .part) ⌝ }
 {
     if column.part == 0.0 {
         let above = in_square(rows, left, right, i, x, column.line, 0.0);
         if let Spot::At(z) = above {
-            return above;
+            return Spot::At(z);
         }
         return in_square(rows, left, right, i, x, column.line - 1, 1.0);
     }
@@ -366,46 +429,21 @@ fn in_row(rows: &[u32], left: &[f64], right: &[f64], i: usize, x: f64, column: P
 
 fn on_grid(rows: &[u32], left: &[f64], right: &[f64], row: Place, column: Place) -> Spot
     requires { ⌜ (1 < row .line) × (row .line < 2 ^ 30) × (1 < column .line) × (column .line < 2 ^ 30) ⌝ }
+    ensures { λ r. ⌜ r ≡ triedAt (λ (i : ℤ) (x : Float). triedAt (λ (j : ℤ) (y : Float). inSquare (valueOf (now (rows .entry)) (now (left .entry)) (now (right .entry))) i x j y) (subℕ (column .line) 2048) (column .part)) (subℕ (row .line) 2048) (row .part) ⌝ }
 {
     if row.part == 0.0 {
         let above = in_row(rows, left, right, row.line, 0.0, column);
         if let Spot::At(z) = above {
-            return above;
+            return Spot::At(z);
         }
         return in_row(rows, left, right, row.line - 1, 1.0, column);
     }
     in_row(rows, left, right, row.line, row.part, column)
 }
 
-// How many heights the longest side of all rows has.
-pub fn widest(rows: &[u32]) -> usize {
-    let m = rows.len() / 6;
-    let mut most: usize = 0;
-    let mut k: usize = 0;
-    while k < m {
-        most = larger(most, longer_side(rows, k));
-        k += 1;
-    }
-    most
-}
-
-fn larger(a: usize, b: usize) -> usize {
-    if a < b { b } else { a }
-}
-
-fn length(start: usize, end: usize) -> usize {
-    if start < end { end - start } else { 0 }
-}
-
-// The longer side of row k.
-fn longer_side(rows: &[u32], k: usize) -> usize {
-    larger(
-        length(record_word(rows, 6, k, 2), record_word(rows, 6, k, 3)),
-        length(record_word(rows, 6, k, 4), record_word(rows, 6, k, 5)),
-    )
-}
-
-fn between(lo: f64, x: f64, hi: f64) -> bool {
+fn between(lo: f64, x: f64, hi: f64) -> bool
+    ensures { λ r. ⌜ r ≡ within lo x hi ⌝ }
+{
     if lo <= x { x <= hi } else { false }
 }
 
@@ -419,7 +457,10 @@ pub fn height_in(
     most: usize,
     s: f64,
     t: f64,
-) -> Spot {
+) -> Spot
+    requires { ⌜ Limits (now rows) most ⌝ }
+    ensures { λ r. ⌜ r ≡ heightOf grid (now (rows .entry)) (now (left .entry)) (now (right .entry)) s t ⌝ }
+{
     let spacing = grid.spacing;
     if spacing != spacing {
         return Spot::Missing;
@@ -441,32 +482,130 @@ pub fn height_in(
     if !between(-wide, v, wide) {
         return Spot::Missing;
     }
-    on_grid(rows, left, right, place(u), place(v))
+    on_grid(rows, left, right, place_of(u), place_of(v))
 }
 
-// Why the lists of a grid are turned back, if they are. `left` and `right` are the lengths of the lists
-// of heights.
-pub fn grid_fault(rows: &[u32], left: usize, right: usize) -> Check {
-    if 6 * 1024 < rows.len() {
-        return Check::Faulty(Refusal::Oversize(1024));
+// ---- the check of the lists
+
+// What is found of a grid's lists: something past its limit, something ragged, or how many heights the
+// longest side of all rows has.
+pub enum Finding {
+    Long,
+    Ragged,
+    Widest(usize),
+}
+
+// The longest side of some rows that are in order, if they are.
+pub enum Pass {
+    Odd,
+    Sound(usize),
+}
+
+fn wide(x: u32) -> usize
+    ensures { λ r. ⌜ (r ≡ x) × (r < 2 ^ 32) ⌝ }
+{
+    x as usize
+}
+
+fn larger(a: usize, b: usize) -> usize
+    ensures { λ r. ⌜ r ≡ max a b ⌝ }
+{
+    if a < b { b } else { a }
+}
+
+fn span(start: usize, end: usize) -> usize
+    ensures { λ r. ⌜ r ≡ end - start ⌝ }
+{
+    if start < end { end - start } else { 0 }
+}
+
+// Is a run of a list of n sound, and within the limit? `last` is where the last one ended.
+fn in_order(start: usize, end: usize, last: usize, n: usize) -> bool
+    ensures { λ r. ⌜ r ≡ not (((ltb end start || ltb start last) || ltb n end) || ltb 1024 (end - start)) ⌝ }
+{
+    if end < start {
+        return false;
     }
+    if start < last {
+        return false;
+    }
+    if n < end {
+        return false;
+    }
+    end - start <= 1024
+}
+
+// Looks through m rows once, as far as they are in order.
+fn quick(rows: &[u32], left: usize, right: usize, m: usize) -> Pass
+    requires { ⌜ (m ≡ rowCount (now rows)) × (m < 2048) ⌝ }
+    ensures { λ r. ⌜ r ≡ passOf (now (rows .entry)) left right ⌝ }
+{
+    let mut most: usize = 0;
+    let mut last_left: usize = 0;
+    let mut last_right: usize = 0;
+    let mut k: usize = 0;
+    while k < m {
+        let at = 6 * k;
+        let a = wide(rows[at + 2]);
+        let b = wide(rows[at + 3]);
+        if !in_order(a, b, last_left, left) {
+            return Pass::Odd;
+        }
+        let c = wide(rows[at + 4]);
+        let d = wide(rows[at + 5]);
+        if !in_order(c, d, last_right, right) {
+            return Pass::Odd;
+        }
+        most = larger(larger(most, span(a, b)), span(c, d));
+        last_left = b;
+        last_right = d;
+        k += 1;
+    }
+    Pass::Sound(most)
+}
+
+// What is at fault with rows that are not all in order.
+fn fault(rows: &[u32]) -> Finding
+    requires { ⌜ length (now rows) ≤ 6144 ⌝ }
+    ensures { λ r. ⌜ r ≡ faultOf (now (rows .entry)) ⌝ }
+{
     let m = rows.len() / 6;
     if any_long(rows, 6, 2, 1024, m) {
-        return Check::Faulty(Refusal::Oversize(1024));
+        return Finding::Long;
     }
     if any_long(rows, 6, 4, 1024, m) {
-        return Check::Faulty(Refusal::Oversize(1024));
+        return Finding::Long;
     }
+    Finding::Ragged
+}
+
+// Looks through the rows. `left` and `right` are the lengths of the lists of heights. What is at fault
+// is only searched for if anything is.
+pub fn survey(rows: &[u32], left: usize, right: usize) -> Finding
+    ensures { λ r. ⌜ r ≡ findingOf (now (rows .entry)) left right ⌝ }
+{
+    if 6 * 1024 < rows.len() {
+        return Finding::Long;
+    }
+    let seen = quick(rows, left, right, rows.len() / 6);
+    let Pass::Sound(most) = seen else {
+        return fault(rows);
+    };
     if rows.len() % 6 != 0 {
-        return Check::Faulty(Refusal::Ragged(0));
+        return Finding::Ragged;
     }
-    if any_bad(rows, 6, 2, left, m) {
-        return Check::Faulty(Refusal::Ragged(0));
+    Finding::Widest(most)
+}
+
+// Why the lists of a grid are turned back, if they are.
+pub fn grid_fault(rows: &[u32], left: usize, right: usize) -> Check
+    ensures { λ r. ⌜ found r ≡ gridFault (now (rows .entry)) left right ⌝ }
+{
+    match survey(rows, left, right) {
+        Finding::Long => Check::Faulty(Refusal::Oversize(1024)),
+        Finding::Ragged => Check::Faulty(Refusal::Ragged(0)),
+        Finding::Widest(_) => Check::Fine,
     }
-    if any_bad(rows, 6, 4, right, m) {
-        return Check::Faulty(Refusal::Ragged(0));
-    }
-    Check::Fine
 }
 
 // The height at (s, t) along and to the left of the reference line.
@@ -477,12 +616,20 @@ pub fn height(
     right: &[f64],
     s: f64,
     t: f64,
-) -> Elevation {
-    let check = grid_fault(rows, left.len(), right.len());
-    if let Check::Faulty(why) = check {
-        return Elevation::Refused(why);
-    }
-    let z = height_in(grid, rows, left, right, widest(rows), s, t);
+) -> Elevation
+    ensures { λ r. ⌜ answered r ≡ heightAnswer grid (now (rows .entry)) (now (left .entry)) (now (right .entry)) s t ⌝ }
+{
+    let found = survey(rows, left.len(), right.len());
+    let most = match found {
+        Finding::Long => {
+            return Elevation::Refused(Refusal::Oversize(1024));
+        }
+        Finding::Ragged => {
+            return Elevation::Refused(Refusal::Ragged(0));
+        }
+        Finding::Widest(most) => most,
+    };
+    let z = height_in(grid, rows, left, right, most, s, t);
     match z {
         Spot::At(h) => Elevation::Height(h),
         Spot::Missing => Elevation::None,
@@ -490,7 +637,9 @@ pub fn height(
 }
 
 // Where (x, y) is on the reference line: s along it and t to its left.
-pub fn locate(grid: ElevationGrid, x: f64, y: f64) -> Station {
+pub fn locate(grid: ElevationGrid, x: f64, y: f64) -> Station
+    ensures { λ r. ⌜ r ≡ locateOf grid x y ⌝ }
+{
     let dx = x - grid.origin_x;
     let dy = y - grid.origin_y;
     Station {
@@ -507,7 +656,9 @@ pub fn height_at(
     right: &[f64],
     x: f64,
     y: f64,
-) -> Elevation {
+) -> Elevation
+    ensures { λ r. ⌜ answered r ≡ heightAtAnswer grid (now (rows .entry)) (now (left .entry)) (now (right .entry)) x y ⌝ }
+{
     let at = locate(grid, x, y);
     height(grid, rows, left, right, at.s, at.t)
 }
