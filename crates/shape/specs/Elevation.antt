@@ -41,7 +41,6 @@ part xs a = take (a .end - a .start) (drop (a .start) xs)
 
 -- record k of the rows: the centre's bits, low word then high, and the runs of the left and of the right heights
 unfoldable pub rowOf : List ℕ → ℕ → GridRow
-unfolding wordOf
 rowOf rows k =
     record {
       center = ofBits binary64 (wordOf 6 rows k 1 * 2 ^ 32 + wordOf 6 rows k 0);
@@ -51,7 +50,6 @@ rowOf rows k =
 
 -- "Column 0 is the centre, 1 and up the left list, -1 and down the right list."
 unfoldable pub columnOf : List Float → List Float → GridRow → ℤ → Spot
-unfolding nth
 columnOf left right row (pos zero) = At (row .center)
 columnOf left right row (pos (suc n)) = nth (part left (row .left)) n
 columnOf left right row (negsuc n) = nth (part right (row .right)) n
@@ -61,7 +59,6 @@ rowCount rows = length rows / 6
 
 -- the height at row i and column j
 unfoldable pub valueOf : List ℕ → List Float → List Float → ℤ → ℤ → Spot
-unfolding rowOf columnOf
 valueOf rows left right (pos i) j = cond (ltb i (rowCount rows)) (columnOf left right (rowOf rows i) j) Missing
 valueOf rows left right (negsuc i) j = Missing
 
@@ -77,7 +74,6 @@ straightOf b c = record { first = c ⊟ b; second = c ⊟ b }
 
 -- the slopes at b and c of four points a grid step apart: of the cubic through all four, or, with an outer neighbour missing, of the line
 unfoldable pub slopesOf : Spot → Float → Float → Spot → Tilt
-unfolding straightOf
 slopesOf (At a) b c (At d) =
     record { first = (-2d ⊠ a ⊟ 3d ⊠ b ⊞ 6d ⊠ c ⊟ d) ⧄ 6d; second = (a ⊟ 6d ⊠ b ⊞ 3d ⊠ c ⊞ 2d ⊠ d) ⧄ 6d }
 slopesOf (At a) b c Missing = straightOf b c
@@ -85,7 +81,6 @@ slopesOf Missing b c d = straightOf b c
 
 -- the slopes along an edge that may lack its ends
 unfoldable pub edgeOf : Spot → Spot → Spot → Spot → Across
-unfolding slopesOf
 edgeOf a (At b) (At c) d = Both (slopesOf a b c d)
 edgeOf a (At b) Missing d = Bare
 edgeOf a Missing c d = Bare
@@ -105,7 +100,6 @@ secondOf (Both t) = At (t .second)
 
 -- corners, slopes along and across, and twists of a square with the corners z, in the rows q and r, between the rows p and w
 unfoldable pub frameOf : Line → Line → Line → Line → Float → Float → Float → Float → Patch
-unfolding slopesOf edgeOf firstOf secondOf
 frameOf p q r w z00 z01 z10 z11 =
     let t0 = slopesOf (q .before) z00 z01 (q .after) in
     let t1 = slopesOf (r .before) z10 z11 (r .after) in
@@ -130,11 +124,9 @@ entryOf a b r c =
     ⊞ getD a (4 * r + 3) nan ⊠ getD b (12 + c) nan
 
 unfoldable pub mulOf : Patch → Patch → Patch
-unfolding gather entryOf
 mulOf a b = record { m = gather (λ (n : ℕ). entryOf (a .m) (b .m) (n / 4) (n % 4) ∷ []) 16 }
 
 unfoldable pub transposeOf : Patch → Patch
-unfolding gather
 transposeOf a = record { m = gather (λ (n : ℕ). getD (a .m) (4 * (n % 4) + n / 4) nan ∷ []) 16 }
 
 -- the standard's matrix, which makes the coefficients
@@ -150,7 +142,6 @@ bicubic =
 
 -- "sixteen coefficients": A f A', with A the matrix
 unfoldable pub coefficientsOf : Patch → Patch
-unfolding mulOf transposeOf bicubic
 coefficientsOf f = mulOf (mulOf bicubic f) (transposeOf bicubic)
 
 -- 1, x, x², x³
@@ -164,7 +155,6 @@ sumTo f (suc n) = sumTo f n ⊞ f (suc n)
 
 -- the height of the surface at (x, y) in its square
 unfoldable pub surfaceOf : Patch → Float → Float → Float
-unfolding powerOf sumTo
 surfaceOf p x y = sumTo (λ (n : ℕ). powerOf x (n / 4) ⊠ getD (p .m) n nan ⊠ powerOf y (n % 4)) 15
 
 -- ---- the square
@@ -175,7 +165,6 @@ withHeight (At z) f = f z
 
 -- the height at (x, y) in the square with the corners that q and r hold, if all four are there
 unfoldable pub squareOf : Line → Line → Line → Line → Float → Float → Spot
-unfolding withHeight frameOf coefficientsOf surfaceOf
 squareOf p q r w x y =
     withHeight (q .first) (λ (z00 : Float).
     withHeight (q .second) (λ (z01 : Float).
@@ -185,7 +174,6 @@ squareOf p q r w x y =
 
 -- of the grid z, from row i and column j
 unfoldable pub inSquare : (ℤ → ℤ → Spot) → ℤ → Float → ℤ → Float → Spot
-unfolding lineOf squareOf
 inSquare z i x j y = squareOf (lineOf (z (predℤ i)) j) (lineOf (z i) j) (lineOf (z (sucℤ i)) j) (lineOf (z (sucℤ (sucℤ i))) j) x y
 
 -- ---- the squares that are tried
@@ -196,41 +184,34 @@ orElse (At z) b = At z
 
 -- "At a whole number the square above is tried first, then the one below": f i x is the height at x between the lines i and i + 1, and the place is `part` past the line i
 unfoldable pub triedAt : (ℤ → Float → Spot) → ℤ → Float → Spot
-unfolding orElse eq
 triedAt f i part = cond (eq part 0d) (orElse (f i 0d) (f (predℤ i) 1d)) (f i part)
 
 abbrev pub floored : Float → Float
 floored at = floorOf binary64 at
 
 unfoldable pub tried : (ℤ → Float → Spot) → Float → Spot
-unfolding triedAt toSigned wholeOf
 tried f at = triedAt f (toSigned 63 (floored at)) (at ⊟ floored at)
 
 -- "all columns are tried for the first row before the second"
 unfoldable pub onGrid : (ℤ → ℤ → Spot) → Float → Float → Spot
-unfolding tried inSquare
 onGrid z u v = tried (λ (i : ℤ) (x : Float). tried (λ (j : ℤ) (y : Float). inSquare z i x j y) v) u
 
 -- ---- the height
 
 -- "Grid coordinates less than 1e-6 from a whole number snap to it": 1e-6 (0x3eb0c6f7a0b5ed8d)
 unfoldable pub snapOf : Float → Float
-unfolding wholeOf absOf lt
 snapOf at = let near = roundOf binary64 at in cond (lt (absOf (at ⊟ near)) (double 0x3eb0_c6f7_a0b5_ed8d)) near at
 
 -- the longest of the first n runs whose starts are word a
 unfoldable pub longest : ℕ → List ℕ → ℕ → ℕ
-unfolding wordOf
 longest a rows zero = 0
 longest a rows (suc k) = max (longest a rows k) (endOf 6 a rows k - startOf 6 a rows k)
 
 -- how many heights the longest side of all rows has
 unfoldable pub widestOf : List ℕ → ℕ
-unfolding longest
 widestOf rows = max (longest 2 rows (rowCount rows)) (longest 4 rows (rowCount rows))
 
 unfoldable pub within : Float → Float → Float → Bool
-unfolding le
 within lo x hi = le lo x && le x hi
 
 -- the count n as a double
@@ -239,7 +220,6 @@ count n = ofInt binary64 (pos n)
 
 -- at the grid coordinates u and v
 unfoldable pub coordsOf : List ℕ → List Float → List Float → Float → Float → Spot
-unfolding within onGrid valueOf widestOf neg ofInt
 coordsOf rows left right u v =
     cond (within 0d u (count (rowCount rows - 1)))
     (cond (within (neg (count (widestOf rows))) v (count (widestOf rows))) (onGrid (valueOf rows left right) u v) Missing)
@@ -247,7 +227,6 @@ coordsOf rows left right u v =
 
 -- "Spacing NaN or at most 0, or no rows: none."
 unfoldable pub heightOf : ElevationGrid → List ℕ → List Float → List Float → Float → Float → Spot
-unfolding isNan le snapOf coordsOf
 heightOf g rows left right s t =
     cond (isNan (g .spacing) || le (g .spacing) 0d) Missing
     (cond (eqb (rowCount rows) 0) Missing
@@ -264,33 +243,26 @@ locateOf g x y =
 
 -- "grid 1,024 rows, 1,024 a side": more records, a part one counted, then a left run, then a right run past it
 unfoldable pub gridLong : List ℕ → Bool
-unfolding longer any runLong
-gridLong rows = longer 6 1024 rows || any (runLong 6 2 rows 1024) (rowCount rows) || any (runLong 6 4 rows 1024) (rowCount rows)
+gridLong rows = (longer 6 1024 rows || any (runLong 6 2 rows 1024) (rowCount rows)) || any (runLong 6 4 rows 1024) (rowCount rows)
 
 -- a part record, then a ragged left run of l heights, then a right one of r
 unfoldable pub gridRagged : List ℕ → ℕ → ℕ → Bool
-unfolding uneven any runBad
-gridRagged rows l r = uneven 6 rows || any (runBad 6 2 rows l) (rowCount rows) || any (runBad 6 4 rows r) (rowCount rows)
+gridRagged rows l r = (uneven 6 rows || any (runBad 6 2 rows l) (rowCount rows)) || any (runBad 6 4 rows r) (rowCount rows)
 
 unfoldable pub gridFault : List ℕ → ℕ → ℕ → Fault
-unfolding refuse gridLong gridRagged
 gridFault rows l r = refuse (gridLong rows) 1 1024 (refuse (gridRagged rows l r) 2 0 fine)
 
 unfoldable pub findingOf : List ℕ → ℕ → ℕ → Finding
-unfolding gridLong gridRagged widestOf
 findingOf rows l r = cond (gridLong rows) Long (cond (gridRagged rows l r) Ragged (Widest (widestOf rows)))
 
 -- the paper's values of an answer: a height or none, or the refusal's number and place
 unfoldable pub answered : Elevation → Answer Spot
-unfolding numberOf placeOf
 answered (Height z) = taken (At z)
 answered None = taken Missing
 answered (Refused r) = refused (numberOf r) (placeOf r)
 
 unfoldable pub heightAnswer : ElevationGrid → List ℕ → List Float → List Float → Float → Float → Answer Spot
-unfolding judge gridFault heightOf
 heightAnswer g rows left right s t = judge (gridFault rows (length left) (length right)) (taken (heightOf g rows left right s t))
 
 unfoldable pub heightAtAnswer : ElevationGrid → List ℕ → List Float → List Float → Float → Float → Answer Spot
-unfolding heightAnswer locateOf
 heightAtAnswer g rows left right x y = let at = locateOf g x y in heightAnswer g rows left right (at .s) (at .t)

@@ -3,19 +3,24 @@
 use mathlib.Core.Path.{_≡_}
 use mathlib.Core.Bool.{Bool, cond, _||_}
 use mathlib.Core.List.{List}
-use Prim.Native.Nat.{ℕ, _≤_, _<_, _^_}
-use lib.Dec.{T}
+use Prim.Native.Nat.{ℕ, _-_, _≤_, _<_, _^_}
+use lib.Dec.{T, ltb}
 use lib.IntN.{subℕ}
 use lib.Ieee.{Float, binary64, le, neg, toSigned}
 use Rattle.shape.specs.Double.{_⊟_, double}
 use Rattle.shape.specs.Gather.{any}
 use Rattle.shape.specs.Lists.{runBad, runLong}
 use Rattle.shape.specs.Elevation.{rowCount, widestOf, floored}
+use Rattle.shape.specs.declared.elevation.Run.{Run}
 use Rattle.shape.specs.declared.elevation.Place.{Place}
 use Rattle.shape.specs.declared.elevation.Finding.{Finding}
 use Rattle.shape.specs.declared.elevation.Finding.the-variants.{Long, Ragged}
 use Rattle.shape.specs.declared.elevation.Pass.{Pass}
 use Rattle.shape.specs.declared.elevation.Pass.the-variants.{Odd, Sound}
+
+-- whether a run is ragged, of a list of n, or past its limit
+unfoldable pub oddRun : Run → ℕ → ℕ → Bool
+oddRun a last n = ((ltb (a .end) (a .start) || ltb (a .start) last) || ltb n (a .end)) || ltb 1024 (a .end - a .start)
 
 -- whether a run of n rows is too long or ragged
 unfoldable pub oddRuns : List ℕ → ℕ → ℕ → ℕ → Bool
@@ -23,7 +28,6 @@ oddRuns rows l r n =
     (any (runLong 6 2 rows 1024) n || any (runLong 6 4 rows 1024) n) || (any (runBad 6 2 rows l) n || any (runBad 6 4 rows r) n)
 
 unfoldable pub passOf : List ℕ → ℕ → ℕ → Pass
-unfolding oddRuns
 passOf rows l r = cond (oddRuns rows l r (rowCount rows)) Odd (Sound (widestOf rows))
 
 -- the fault of rows that are not all in order

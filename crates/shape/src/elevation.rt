@@ -3,16 +3,15 @@
 // left heights, -1 and down the right heights. A number of a line that may be below 0 is held with
 // 2,048 added, so that it is a count.
 ghost use mathlib.Core.Path.{_≡_};
-ghost use mathlib.Core.Bool.{_&&_, _||_, not};
+ghost use mathlib.Core.Bool.{not};
 ghost use Prim.Native.Nat.{ℕ, _+_, _-_, _*_, _/_, _^_, _≤_, _<_, max};
-ghost use lib.Dec.{ltb};
 ghost use lib.ListN.{length};
 ghost use lib.IntN.{ℤ, subℕ};
 ghost use lib.Ieee.{Float, binary64};
 ghost use Rattle.shape.specs.Double.{_⊞_, _⊟_, _⊠_, _⧄_};
 ghost use Rattle.shape.specs.Refusal.{found};
 ghost use Rattle.shape.specs.Elevation.{nth, part, rowOf, columnOf, rowCount, valueOf, lineOf, straightOf, slopesOf, acrossOf, firstOf, secondOf, frameOf, entryOf, mulOf, coefficientsOf, surfaceOf, inSquare, triedAt, snapOf, within, widestOf, heightOf, locateOf, gridFault, findingOf, answered, heightAnswer, heightAtAnswer};
-ghost use Rattle.shape.specs.ElevationSteps.{oddRuns, passOf, faultOf, Placed, Near, Limits};
+ghost use Rattle.shape.specs.ElevationSteps.{oddRun, passOf, faultOf, Placed, Near, Limits};
 use crate::lists::any_long;
 use crate::refusal::Check;
 use crate::refusal::Refusal;
@@ -513,31 +512,38 @@ fn larger(a: usize, b: usize) -> usize
     if a < b { b } else { a }
 }
 
-fn span(start: usize, end: usize) -> usize
-    ensures { λ r. ⌜ r ≡ end - start ⌝ }
+fn span(run: Run) -> usize
+    ensures { λ r. ⌜ r ≡ run .end - run .start ⌝ }
 {
-    if start < end { end - start } else { 0 }
+    if run.start < run.end {
+        run.end - run.start
+    } else {
+        0
+    }
 }
 
 // Is a run of a list of n sound, and within the limit? `last` is where the last one ended.
-fn in_order(start: usize, end: usize, last: usize, n: usize) -> bool
-    ensures { λ r. ⌜ r ≡ not (((ltb end start || ltb start last) || ltb n end) || ltb 1024 (end - start)) ⌝ }
+fn in_order(run: Run, last: usize, n: usize) -> bool
+    ensures { λ r. ⌜ r ≡ not (oddRun run last n) ⌝ }
 {
-    if end < start {
+    if run.end < run.start {
         return false;
     }
-    if start < last {
+    if run.start < last {
         return false;
     }
-    if n < end {
+    if n < run.end {
         return false;
     }
-    end - start <= 1024
+    if 1024 < span(run) {
+        return false;
+    }
+    true
 }
 
 // Looks through m rows once, as far as they are in order.
 fn quick(rows: &[u32], left: usize, right: usize, m: usize) -> Pass
-    requires { ⌜ (m ≡ rowCount (now rows)) × (m < 2048) ⌝ }
+    requires { ⌜ (m ≡ rowCount (now rows)) × (m ≤ 1024) ⌝ }
     ensures { λ r. ⌜ r ≡ passOf (now (rows .entry)) left right ⌝ }
 {
     let mut most: usize = 0;
@@ -545,20 +551,18 @@ fn quick(rows: &[u32], left: usize, right: usize, m: usize) -> Pass
     let mut last_right: usize = 0;
     let mut k: usize = 0;
     while k < m {
-        let at = 6 * k;
-        let a = wide(rows[at + 2]);
-        let b = wide(rows[at + 3]);
-        if !in_order(a, b, last_left, left) {
+        let here = row(rows, k);
+        let a = here.left;
+        let b = here.right;
+        if !in_order(a, last_left, left) {
             return Pass::Odd;
         }
-        let c = wide(rows[at + 4]);
-        let d = wide(rows[at + 5]);
-        if !in_order(c, d, last_right, right) {
+        if !in_order(b, last_right, right) {
             return Pass::Odd;
         }
-        most = larger(larger(most, span(a, b)), span(c, d));
-        last_left = b;
-        last_right = d;
+        most = larger(larger(most, span(a)), span(b));
+        last_left = a.end;
+        last_right = b.end;
         k += 1;
     }
     Pass::Sound(most)

@@ -1,104 +1,82 @@
+-- `shape::elevation::entry` meets its contract: it is the formula. Assumes nothing.
+use mathlib.Core.Path.{refl}
+use Rattle.shape.specs.Elevation.{entryOf}
 use borrow.Author.Needs.{needs}
 use Rattle.shape.proofs.elevation.entry.Statement.{statement}
 use Rattle.shape.proofs.elevation.entry.Tie as tie
-use Rattle.shape.proofs.elevation.entry.Reads as reads
-use Rattle.shape.proofs.elevation.entry.Lts as lts
 
--- src/elevation.rt:259:13
 mul-k : tie.Need-mul-k
 mul-k c = search needs
 
--- src/elevation.rt:260:5
 mul-result : tie.Need-mul-result
 mul-result c = search needs
 
--- src/elevation.rt:260:5
 array-read-result : tie.Need-array-read-result
 array-read-result c = search needs
 
--- src/elevation.rt:260:12
 mul-result-2 : tie.Need-mul-result-2
 mul-result-2 c = search needs
 
--- src/elevation.rt:260:12
 array-read-result-2 : tie.Need-array-read-result-2
 array-read-result-2 c = search needs
 
--- src/elevation.rt:260:21
 add-result : tie.Need-add-result
 add-result c = search needs
 
--- src/elevation.rt:260:19
 mul-result-3 : tie.Need-mul-result-3
 mul-result-3 c = search needs
 
--- src/elevation.rt:260:19
 array-read-result-3 : tie.Need-array-read-result-3
 array-read-result-3 c = search needs
 
--- src/elevation.rt:260:32
 add-result-2 : tie.Need-add-result-2
 add-result-2 c = search needs
 
--- src/elevation.rt:260:30
 mul-result-4 : tie.Need-mul-result-4
 mul-result-4 c = search needs
 
--- src/elevation.rt:260:30
 array-read-result-4 : tie.Need-array-read-result-4
 array-read-result-4 c = search needs
 
--- src/elevation.rt:260:43
 add-result-3 : tie.Need-add-result-3
 add-result-3 c = search needs
 
--- src/elevation.rt:260:41
 mul-result-5 : tie.Need-mul-result-5
 mul-result-5 c = search needs
 
--- src/elevation.rt:260:41
 array-read-result-5 : tie.Need-array-read-result-5
 array-read-result-5 c = search needs
 
--- src/elevation.rt:260:54
 add-result-4 : tie.Need-add-result-4
 add-result-4 c = search needs
 
--- src/elevation.rt:260:52
 mul-result-6 : tie.Need-mul-result-6
 mul-result-6 c = search needs
 
--- src/elevation.rt:260:52
 array-read-result-6 : tie.Need-array-read-result-6
 array-read-result-6 c = search needs
 
--- src/elevation.rt:260:65
 add-result-5 : tie.Need-add-result-5
 add-result-5 c = search needs
 
--- src/elevation.rt:260:63
 mul-result-7 : tie.Need-mul-result-7
 mul-result-7 c = search needs
 
--- src/elevation.rt:260:63
 array-read-result-7 : tie.Need-array-read-result-7
 array-read-result-7 c = search needs
 
--- src/elevation.rt:260:76
 add-result-6 : tie.Need-add-result-6
 add-result-6 c = search needs
 
--- src/elevation.rt:260:74
 mul-result-8 : tie.Need-mul-result-8
 mul-result-8 c = search needs
 
--- src/elevation.rt:260:74
 array-read-result-8 : tie.Need-array-read-result-8
 array-read-result-8 c = search needs
 
--- src/elevation.rt:253:1
 returns : tie.Need-returns
-returns c = ?
+unfolding entryOf
+returns c = refl
 
 pub entry-spec : {M : Type 1} → statement M
 entry-spec =

@@ -1,24 +1,22 @@
+-- `shape::elevation::first_of` meets its contract, by the case. Assumes nothing.
+use Rattle.shape.specs.Elevation.{firstOf}
 use borrow.Author.Needs.{needs}
 use Rattle.shape.proofs.elevation.first_of.Statement.{statement}
 use Rattle.shape.proofs.elevation.first_of.Tie as tie
-use Rattle.shape.proofs.elevation.first_of.Reads as reads
-use Rattle.shape.proofs.elevation.first_of.Lts as lts
 
--- src/elevation.rt:216:22
 enum-known-x : tie.Need-enum-known-x
 enum-known-x c = search needs
 
--- src/elevation.rt:217:9
 enum-told : tie.Need-enum-told
 enum-told c = search needs
 
--- src/elevation.rt:217:9
 returns : tie.Need-returns
-returns c = ?
+unfolding firstOf
+returns c = rw (c .enum-told .given .1)
 
--- src/elevation.rt:213:1
 returns-2 : tie.Need-returns-2
-returns-2 c = ?
+unfolding firstOf
+returns-2 c = rw (c .before .x .given .1)
 
 pub first-of-spec : {M : Type 1} → statement M
 first-of-spec = tie.close (tie.spec enum-known-x enum-told returns returns-2)

@@ -1,37 +1,36 @@
+-- `shape::elevation::grid_fault` meets its contract, by what is found. Assumes nothing.
+use mathlib.Core.Path.{sym, _∙_}
+use denote.Ref.{now}
+use Rattle.shape.specs.Refusal.{found, numberOf, placeOf, refuse}
+use Rattle.shape.specs.Elevation.{gridFault}
+use Rattle.shape.proofs.Surveys.{says-long, says-ragged, says-widest}
 use borrow.Author.Needs.{needs}
 use Rattle.shape.proofs.elevation.grid_fault.Statement.{statement}
 use Rattle.shape.proofs.elevation.grid_fault.Tie as tie
-use Rattle.shape.proofs.elevation.grid_fault.Reads as reads
-use Rattle.shape.proofs.elevation.grid_fault.Lts as lts
-use Rattle.shape.proofs.elevation.survey.Reads as survey-reads
 
--- src/elevation.rt:591:11
 survey-requires : tie.Need-survey-requires
 survey-requires c κs = search needs
 
--- src/elevation.rt:592:40
 enum-told : tie.Need-enum-told
 enum-told c = search needs
 
--- src/elevation.rt:593:42
 enum-told-2 : tie.Need-enum-told-2
 enum-told-2 c = search needs
 
--- src/elevation.rt:594:31
 enum-told-3 : tie.Need-enum-told-3
 enum-told-3 c = search needs
 
--- src/elevation.rt:588:1
 returns : tie.Need-returns
-returns c = ?
+unfolding found numberOf placeOf gridFault refuse
+returns c = rw (says-long (now (c .before .before .before .before .args .rows)) (c .before .before .before .before .args .left) (c .before .before .before .before .args .right) (sym (c .enum-told .given .1) ∙ c .before .before .survey .ensures))
 
--- src/elevation.rt:588:1
 returns-2 : tie.Need-returns-2
-returns-2 c = ?
+unfolding found numberOf placeOf gridFault refuse
+returns-2 c = let e = says-ragged (now (c .before .before .before .before .args .rows)) (c .before .before .before .before .args .left) (c .before .before .before .before .args .right) (sym (c .enum-told2 .given .1) ∙ c .before .before .survey .ensures) in rw (e .0, e .1)
 
--- src/elevation.rt:588:1
 returns-3 : tie.Need-returns-3
-returns-3 c = ?
+unfolding found numberOf placeOf gridFault refuse
+returns-3 c = let e = says-widest (now (c .before .before .before .before .args .rows)) (c .before .before .before .before .args .left) (c .before .before .before .before .args .right) _ (sym (c .enum-told3 .given .1) ∙ c .before .before .survey .ensures) in rw (e .0 .0, e .0 .1)
 
 pub grid-fault-spec : {M : Type 1} → statement M
 grid-fault-spec =

@@ -1,54 +1,50 @@
+-- `shape::elevation::height` meets its contract, by what is found of the lists and by the height over them. Assumes nothing.
+use mathlib.Core.Path.{sym, _∙_}
+use denote.Ref.{now}
+use lib.ListN.{length}
+use Rattle.shape.specs.Refusal.{numberOf, placeOf, refuse, judge}
+use Rattle.shape.specs.Elevation.{gridFault, answered, heightAnswer}
+use Rattle.shape.proofs.Surveys.{says-long, says-ragged, says-widest, limits}
 use borrow.Author.Needs.{needs}
 use Rattle.shape.proofs.elevation.height.Statement.{statement}
 use Rattle.shape.proofs.elevation.height.Tie as tie
-use Rattle.shape.proofs.elevation.height.Reads as reads
-use Rattle.shape.proofs.elevation.height.Lts as lts
-use Rattle.shape.proofs.elevation.height_in.Reads as height-in-reads
-use Rattle.shape.proofs.elevation.survey.Reads as survey-reads
 
--- src/elevation.rt:609:9
 survey-requires : tie.Need-survey-requires
 survey-requires c κs = search needs
 
--- src/elevation.rt:612:39
 enum-told : tie.Need-enum-told
 enum-told c = search needs
 
--- src/elevation.rt:612:13
 returns : tie.Need-returns
-returns c = ?
+unfolding answered heightAnswer judge numberOf placeOf gridFault refuse
+returns c = rw (says-long (now (c .before .before .before .before .before .before .args .rows)) (length (now (c .before .before .before .before .before .before .args .left))) (length (now (c .before .before .before .before .before .before .args .right))) (sym (c .enum-told .given .1) ∙ c .before .before .survey .ensures))
 
--- src/elevation.rt:615:39
 enum-told-2 : tie.Need-enum-told-2
 enum-told-2 c = search needs
 
--- src/elevation.rt:615:13
 returns-2 : tie.Need-returns-2
-returns-2 c = ?
+unfolding answered heightAnswer judge numberOf placeOf gridFault refuse
+returns-2 c = let e = says-ragged (now (c .before .before .before .before .before .before .args .rows)) (length (now (c .before .before .before .before .before .before .args .left))) (length (now (c .before .before .before .before .before .before .args .right))) (sym (c .enum-told2 .given .1) ∙ c .before .before .survey .ensures) in rw (e .0, e .1)
 
--- src/elevation.rt:617:25
 enum-known-found : tie.Need-enum-known-found
 enum-known-found c = search needs
 
--- src/elevation.rt:619:9
 height-in-requires : tie.Need-height-in-requires
-height-in-requires c κs = ?
+height-in-requires c κs = let e = says-widest (now (c .before .before .before .before .before .before .before .args .rows)) (length (now (c .before .before .before .before .before .before .before .args .left))) (length (now (c .before .before .before .before .before .before .before .args .right))) _ (sym (c .before .found .given .1) ∙ c .before .before .before .survey .ensures) in limits (now (c .before .before .before .before .before .before .before .args .rows)) _ (e .0 .0) (e .1)
 
--- src/elevation.rt:621:18
 enum-known-z : tie.Need-enum-known-z
 enum-known-z c = search needs
 
--- src/elevation.rt:622:26
 enum-told-3 : tie.Need-enum-told-3
 enum-told-3 c = search needs
 
--- src/elevation.rt:599:1
 returns-3 : tie.Need-returns-3
-returns-3 c = ?
+unfolding answered heightAnswer judge numberOf placeOf gridFault refuse
+returns-3 c = let e = says-widest (now (c .before .before .before .before .before .before .before .before .before .before .before .args .rows)) (length (now (c .before .before .before .before .before .before .before .before .before .before .before .args .left))) (length (now (c .before .before .before .before .before .before .before .before .before .before .before .args .right))) _ (sym (c .before .before .before .before .before .found .given .1) ∙ c .before .before .before .before .before .before .before .survey .ensures) in rw (e .0 .0, e .0 .1, ← c .before .before .before .height-in .ensures, c .before .z .given .1)
 
--- src/elevation.rt:599:1
 returns-4 : tie.Need-returns-4
-returns-4 c = ?
+unfolding answered heightAnswer judge numberOf placeOf gridFault refuse
+returns-4 c = let e = says-widest (now (c .before .before .before .before .before .before .before .before .before .before .args .rows)) (length (now (c .before .before .before .before .before .before .before .before .before .before .args .left))) (length (now (c .before .before .before .before .before .before .before .before .before .before .args .right))) _ (sym (c .before .before .before .before .found .given .1) ∙ c .before .before .before .before .before .before .survey .ensures) in rw (e .0 .0, e .0 .1, ← c .before .before .height-in .ensures, c .enum-told3 .given .1)
 
 pub height-spec : {M : Type 1} → statement M
 height-spec =

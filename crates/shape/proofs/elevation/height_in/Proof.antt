@@ -1,76 +1,61 @@
+-- `shape::elevation::height_in` meets its contract, by the tests in turn. Assumes nothing.
+use mathlib.Core.Path.{sym, _∙_}
+use native.Mathlib.Omega.{arith}
+use borrow.Author.Tests.{eq-eqb, ne-eqb, not-true, not-false}
+use denote.Ref.{now}
+use Rattle.shape.specs.Elevation.{valueOf}
+use Rattle.shape.proofs.Squares.{spacing-nan, spacing-low, no-rows, some-rows, off-rows, off-columns, on-both, on-grid-is, row-near, column-near}
 use borrow.Author.Needs.{needs}
 use Rattle.shape.proofs.elevation.height_in.Statement.{statement}
 use Rattle.shape.proofs.elevation.height_in.Tie as tie
-use Rattle.shape.proofs.elevation.height_in.Reads as reads
-use Rattle.shape.proofs.elevation.height_in.Lts as lts
-use Rattle.shape.proofs.elevation.between.Reads as between-reads
-use Rattle.shape.proofs.elevation.on_grid.Reads as on-grid-reads
-use Rattle.shape.proofs.elevation.place_of.Reads as place-of-reads
-use Rattle.shape.proofs.elevation.snap.Reads as snap-reads
 
--- src/elevation.rt:462:9
 returns : tie.Need-returns
-returns c = ?
+returns c = spacing-nan (c .before .before .before .before .args .grid) (now (c .before .before .before .before .args .rows)) (now (c .before .before .before .before .args .left)) (now (c .before .before .before .before .args .right)) (c .before .before .before .before .args .s) (c .before .before .before .before .args .t) (c .if1 .taken)
 
--- src/elevation.rt:465:9
 returns-2 : tie.Need-returns-2
-returns-2 c = ?
+returns-2 c = spacing-low (c .before .before .before .before .before .args .grid) (now (c .before .before .before .before .before .args .rows)) (now (c .before .before .before .before .before .args .left)) (now (c .before .before .before .before .before .args .right)) (c .before .before .before .before .before .args .s) (c .before .before .before .before .before .args .t) (c .if2 .taken)
 
--- src/elevation.rt:469:9
 returns-3 : tie.Need-returns-3
-returns-3 c = ?
+returns-3 c = no-rows (c .before .before .before .before .before .before .args .grid) (now (c .before .before .before .before .before .before .args .rows)) (now (c .before .before .before .before .before .before .args .left)) (now (c .before .before .before .before .before .before .args .right)) (c .before .before .before .before .before .before .args .s) (c .before .before .before .before .before .before .args .t) (eq-eqb _ _ (c .if3 .taken)) (c .before .before .if1 .left) (c .before .if2 .left)
 
--- src/elevation.rt:471:9
 snap-requires : tie.Need-snap-requires
 snap-requires c κs = search needs
 
--- src/elevation.rt:472:9
 snap-requires-2 : tie.Need-snap-requires-2
 snap-requires-2 c κs = search needs
 
--- src/elevation.rt:473:17
 sub-last : tie.Need-sub-last
 sub-last c = search needs
 
--- src/elevation.rt:473:16
 int-to-float-last : tie.Need-int-to-float-last
 int-to-float-last c = ?
 
--- src/elevation.rt:474:16
 int-to-float-wide : tie.Need-int-to-float-wide
 int-to-float-wide c = ?
 
--- src/elevation.rt:475:9
 between-requires : tie.Need-between-requires
 between-requires c κs = search needs
 
--- src/elevation.rt:476:9
 returns-4 : tie.Need-returns-4
-returns-4 c = ?
+returns-4 c = off-rows (now (c .before .before .before .before .before .before .before .before .before .before .before .before .before .args .rows)) (now (c .before .before .before .before .before .before .before .before .before .before .before .before .before .args .left)) (now (c .before .before .before .before .before .before .before .before .before .before .before .before .before .args .right)) _ _ (sym (c .before .between .ensures) ∙ not-true (c .before .between .result) (c .if4 .taken)) ∙ some-rows (c .before .before .before .before .before .before .before .before .before .before .before .before .before .args .grid) (now (c .before .before .before .before .before .before .before .before .before .before .before .before .before .args .rows)) (now (c .before .before .before .before .before .before .before .before .before .before .before .before .before .args .left)) (now (c .before .before .before .before .before .before .before .before .before .before .before .before .before .args .right)) (c .before .before .before .before .before .before .before .before .before .before .before .before .before .args .s) (c .before .before .before .before .before .before .before .before .before .before .before .before .before .args .t) (ne-eqb _ _ (c .before .before .before .before .before .before .before .if3 .left)) (c .before .before .before .before .before .before .before .before .before .if1 .left) (c .before .before .before .before .before .before .before .before .if2 .left) (c .before .before .before .before .before .snap .ensures) (c .before .before .before .before .snap2 .ensures)
 
--- src/elevation.rt:478:9
 between-requires-2 : tie.Need-between-requires-2
 between-requires-2 c κs = search needs
 
--- src/elevation.rt:479:9
 returns-5 : tie.Need-returns-5
-returns-5 c = ?
+returns-5 c = off-columns (now (c .before .before .before .before .before .before .before .before .before .before .before .before .before .before .before .args .rows)) (now (c .before .before .before .before .before .before .before .before .before .before .before .before .before .before .before .args .left)) (now (c .before .before .before .before .before .before .before .before .before .before .before .before .before .before .before .args .right)) _ _ (c .before .before .before .before .before .before .before .before .before .before .before .before .before .before .before .args .most) (c .before .before .before .before .before .before .before .before .before .before .before .before .before .before .before .pre .widest) (sym (c .before .before .before .between .ensures) ∙ not-false (c .before .before .before .between .result) (c .before .before .if4 .left)) (sym (c .before .between2 .ensures) ∙ not-true (c .before .between2 .result) (c .if5 .taken)) ∙ some-rows (c .before .before .before .before .before .before .before .before .before .before .before .before .before .before .before .args .grid) (now (c .before .before .before .before .before .before .before .before .before .before .before .before .before .before .before .args .rows)) (now (c .before .before .before .before .before .before .before .before .before .before .before .before .before .before .before .args .left)) (now (c .before .before .before .before .before .before .before .before .before .before .before .before .before .before .before .args .right)) (c .before .before .before .before .before .before .before .before .before .before .before .before .before .before .before .args .s) (c .before .before .before .before .before .before .before .before .before .before .before .before .before .before .before .args .t) (ne-eqb _ _ (c .before .before .before .before .before .before .before .before .before .if3 .left)) (c .before .before .before .before .before .before .before .before .before .before .before .if1 .left) (c .before .before .before .before .before .before .before .before .before .before .if2 .left) (c .before .before .before .before .before .before .before .snap .ensures) (c .before .before .before .before .before .before .snap2 .ensures)
 
--- src/elevation.rt:481:32
 place-of-requires : tie.Need-place-of-requires
-place-of-requires c κs = ?
+place-of-requires c κs = row-near _ _ (omega (arith, c .before .before .before .before .before .before .before .before .before .before .before .before .before .before .before .pre .few)) (sym (c .before .before .before .between .ensures) ∙ not-false (c .before .before .before .between .result) (c .before .before .if4 .left))
 
--- src/elevation.rt:481:45
 place-of-requires-2 : tie.Need-place-of-requires-2
-place-of-requires-2 c κs = ?
+place-of-requires-2 c κs = column-near _ _ (c .before .before .before .before .before .before .before .before .before .before .before .before .before .before .before .before .pre .narrow) (sym (c .before .before .between2 .ensures) ∙ not-false (c .before .before .between2 .result) (c .before .if5 .left))
 
--- src/elevation.rt:481:5
 on-grid-requires : tie.Need-on-grid-requires
-on-grid-requires c κs = search needs
+on-grid-requires c κs = (c .before .place-of .ensures .low, c .before .place-of .ensures .high, c .place-of2 .ensures .low, c .place-of2 .ensures .high)
 
--- src/elevation.rt:448:1
 returns-6 : tie.Need-returns-6
-returns-6 c = ?
+returns-6 c = c .on-grid .ensures ∙ on-grid-is (valueOf (now (c .before .before .before .before .before .before .before .before .before .before .before .before .before .before .before .before .before .before .args .rows)) (now (c .before .before .before .before .before .before .before .before .before .before .before .before .before .before .before .before .before .before .args .left)) (now (c .before .before .before .before .before .before .before .before .before .before .before .before .before .before .before .before .before .before .args .right))) _ _ _ _ (c .before .before .place-of .ensures) (c .before .place-of2 .ensures) ∙ on-both (now (c .before .before .before .before .before .before .before .before .before .before .before .before .before .before .before .before .before .before .args .rows)) (now (c .before .before .before .before .before .before .before .before .before .before .before .before .before .before .before .before .before .before .args .left)) (now (c .before .before .before .before .before .before .before .before .before .before .before .before .before .before .before .before .before .before .args .right)) _ _ (c .before .before .before .before .before .before .before .before .before .before .before .before .before .before .before .before .before .before .args .most) (c .before .before .before .before .before .before .before .before .before .before .before .before .before .before .before .before .before .before .pre .widest) (sym (c .before .before .before .before .before .before .between .ensures) ∙ not-false (c .before .before .before .before .before .before .between .result) (c .before .before .before .before .before .if4 .left)) (sym (c .before .before .before .before .between2 .ensures) ∙ not-false (c .before .before .before .before .between2 .result) (c .before .before .before .if5 .left)) ∙ some-rows (c .before .before .before .before .before .before .before .before .before .before .before .before .before .before .before .before .before .before .args .grid) (now (c .before .before .before .before .before .before .before .before .before .before .before .before .before .before .before .before .before .before .args .rows)) (now (c .before .before .before .before .before .before .before .before .before .before .before .before .before .before .before .before .before .before .args .left)) (now (c .before .before .before .before .before .before .before .before .before .before .before .before .before .before .before .before .before .before .args .right)) (c .before .before .before .before .before .before .before .before .before .before .before .before .before .before .before .before .before .before .args .s) (c .before .before .before .before .before .before .before .before .before .before .before .before .before .before .before .before .before .before .args .t) (ne-eqb _ _ (c .before .before .before .before .before .before .before .before .before .before .before .before .if3 .left)) (c .before .before .before .before .before .before .before .before .before .before .before .before .before .before .if1 .left) (c .before .before .before .before .before .before .before .before .before .before .before .before .before .if2 .left) (c .before .before .before .before .before .before .before .before .before .before .snap .ensures) (c .before .before .before .before .before .before .before .before .before .snap2 .ensures)
 
 pub height-in-spec : {M : Type 1} → statement M
 height-in-spec =

@@ -1,104 +1,81 @@
+-- `shape::elevation::in_square` meets its contract, by the corners. Assumes nothing.
+use mathlib.Core.Path.{refl, _∙_}
+use lib.IntN.{subℕ}
+use denote.Ref.{now}
+use Rattle.shape.specs.Elevation.{valueOf}
+use Rattle.shape.proofs.Squares.{none-1, none-2, none-3, none-4, whole, square-is}
 use borrow.Author.Needs.{needs}
 use Rattle.shape.proofs.elevation.in_square.Statement.{statement}
 use Rattle.shape.proofs.elevation.in_square.Tie as tie
-use Rattle.shape.proofs.elevation.in_square.Reads as reads
-use Rattle.shape.proofs.elevation.in_square.Lts as lts
-use Rattle.shape.proofs.elevation.coefficients.Reads as coefficients-reads
-use Rattle.shape.proofs.elevation.frame.Reads as frame-reads
-use Rattle.shape.proofs.elevation.line_at.Reads as line-at-reads
-use Rattle.shape.proofs.elevation.terms.Reads as terms-reads
 
--- src/elevation.rt:362:9
 line-at-requires : tie.Need-line-at-requires
 line-at-requires c κs = search needs
 
--- src/elevation.rt:363:40
 add-line-at : tie.Need-add-line-at
 add-line-at c = search needs
 
--- src/elevation.rt:363:9
 line-at-requires-2 : tie.Need-line-at-requires-2
 line-at-requires-2 c κs = search needs
 
--- src/elevation.rt:368:18
 enum-known-a : tie.Need-enum-known-a
 enum-known-a c = search needs
 
--- src/elevation.rt:369:9
 enum-told : tie.Need-enum-told
 enum-told c = search needs
 
--- src/elevation.rt:369:9
 returns : tie.Need-returns
-returns c = ?
+returns c = none-1 _ _ _ _ _ _ (c .enum-told .given .1) ∙ square-is (valueOf (now (c .before .before .before .before .before .before .before .args .rows)) (now (c .before .before .before .before .before .before .before .args .left)) (now (c .before .before .before .before .before .before .before .args .right))) (c .before .before .before .before .before .before .before .args .i) (subℕ (c .before .before .before .before .before .before .before .args .j) 2048) (c .before .before .before .before .before .before .before .args .x) (c .before .before .before .before .before .before .before .args .y) (c .before .before .before .before .before .before .before .pre .0) refl (c .before .before .before .line-at .ensures) (c .before .before .line-at2 .ensures) refl
 
--- src/elevation.rt:371:18
 enum-known-b : tie.Need-enum-known-b
 enum-known-b c = search needs
 
--- src/elevation.rt:372:9
 enum-told-2 : tie.Need-enum-told-2
 enum-told-2 c = search needs
 
--- src/elevation.rt:372:9
 returns-2 : tie.Need-returns-2
-returns-2 c = ?
+returns-2 c = none-2 _ _ _ _ _ _ (c .before .before .before .a .given .1) (c .enum-told2 .given .1) ∙ square-is (valueOf (now (c .before .before .before .before .before .before .before .before .before .before .args .rows)) (now (c .before .before .before .before .before .before .before .before .before .before .args .left)) (now (c .before .before .before .before .before .before .before .before .before .before .args .right))) (c .before .before .before .before .before .before .before .before .before .before .args .i) (subℕ (c .before .before .before .before .before .before .before .before .before .before .args .j) 2048) (c .before .before .before .before .before .before .before .before .before .before .args .x) (c .before .before .before .before .before .before .before .before .before .before .args .y) (c .before .before .before .before .before .before .before .before .before .before .pre .0) refl (c .before .before .before .before .before .before .line-at .ensures) (c .before .before .before .before .before .line-at2 .ensures) refl
 
--- src/elevation.rt:374:18
 enum-known-c : tie.Need-enum-known-c
 enum-known-c c = search needs
 
--- src/elevation.rt:375:9
 enum-told-3 : tie.Need-enum-told-3
 enum-told-3 c = search needs
 
--- src/elevation.rt:375:9
 returns-3 : tie.Need-returns-3
-returns-3 c = ?
+returns-3 c = none-3 _ _ _ _ _ _ (c .before .before .before .before .before .before .a .given .1) (c .before .before .before .b .given .1) (c .enum-told3 .given .1) ∙ square-is (valueOf (now (c .before .before .before .before .before .before .before .before .before .before .before .before .before .args .rows)) (now (c .before .before .before .before .before .before .before .before .before .before .before .before .before .args .left)) (now (c .before .before .before .before .before .before .before .before .before .before .before .before .before .args .right))) (c .before .before .before .before .before .before .before .before .before .before .before .before .before .args .i) (subℕ (c .before .before .before .before .before .before .before .before .before .before .before .before .before .args .j) 2048) (c .before .before .before .before .before .before .before .before .before .before .before .before .before .args .x) (c .before .before .before .before .before .before .before .before .before .before .before .before .before .args .y) (c .before .before .before .before .before .before .before .before .before .before .before .before .before .pre .0) refl (c .before .before .before .before .before .before .before .before .before .line-at .ensures) (c .before .before .before .before .before .before .before .before .line-at2 .ensures) refl
 
--- src/elevation.rt:377:18
 enum-known-d : tie.Need-enum-known-d
 enum-known-d c = search needs
 
--- src/elevation.rt:378:9
 enum-told-4 : tie.Need-enum-told-4
 enum-told-4 c = search needs
 
--- src/elevation.rt:378:9
 returns-4 : tie.Need-returns-4
-returns-4 c = ?
+returns-4 c = none-4 _ _ _ _ _ _ (c .before .before .before .before .before .before .before .before .before .a .given .1) (c .before .before .before .before .before .before .b .given .1) (c .before .before .before .c .given .1) (c .enum-told4 .given .1) ∙ square-is (valueOf (now (c .before .before .before .before .before .before .before .before .before .before .before .before .before .before .before .before .args .rows)) (now (c .before .before .before .before .before .before .before .before .before .before .before .before .before .before .before .before .args .left)) (now (c .before .before .before .before .before .before .before .before .before .before .before .before .before .before .before .before .args .right))) (c .before .before .before .before .before .before .before .before .before .before .before .before .before .before .before .before .args .i) (subℕ (c .before .before .before .before .before .before .before .before .before .before .before .before .before .before .before .before .args .j) 2048) (c .before .before .before .before .before .before .before .before .before .before .before .before .before .before .before .before .args .x) (c .before .before .before .before .before .before .before .before .before .before .before .before .before .before .before .before .args .y) (c .before .before .before .before .before .before .before .before .before .before .before .before .before .before .before .before .pre .0) refl (c .before .before .before .before .before .before .before .before .before .before .before .before .line-at .ensures) (c .before .before .before .before .before .before .before .before .before .before .before .line-at2 .ensures) refl
 
--- src/elevation.rt:380:40
 sub-line-at : tie.Need-sub-line-at
 sub-line-at c = search needs
 
--- src/elevation.rt:380:9
 line-at-requires-3 : tie.Need-line-at-requires-3
 line-at-requires-3 c κs = search needs
 
--- src/elevation.rt:381:40
 add-line-at-2 : tie.Need-add-line-at-2
 add-line-at-2 c = search needs
 
--- src/elevation.rt:381:9
 line-at-requires-4 : tie.Need-line-at-requires-4
 line-at-requires-4 c κs = search needs
 
--- src/elevation.rt:382:9
 frame-requires : tie.Need-frame-requires
 frame-requires c κs = search needs
 
--- src/elevation.rt:383:20
 coefficients-requires : tie.Need-coefficients-requires
 coefficients-requires c κs = search needs
 
--- src/elevation.rt:383:14
 terms-requires : tie.Need-terms-requires
 terms-requires c κs = search needs
 
--- src/elevation.rt:358:1
 returns-5 : tie.Need-returns-5
-returns-5 c = ?
+returns-5 c = rw (c .terms .ensures, c .before .coefficients .ensures, c .before .before .frame .ensures) (whole _ _ _ _ _ _ (c .before .before .before .before .before .before .before .before .before .before .before .before .before .before .before .a .given .1) (c .before .before .before .before .before .before .before .before .before .before .before .before .b .given .1) (c .before .before .before .before .before .before .before .before .before .c .given .1) (c .before .before .before .before .before .before .d .given .1) ∙ square-is (valueOf (now (c .before .before .before .before .before .before .before .before .before .before .before .before .before .before .before .before .before .before .before .before .before .before .args .rows)) (now (c .before .before .before .before .before .before .before .before .before .before .before .before .before .before .before .before .before .before .before .before .before .before .args .left)) (now (c .before .before .before .before .before .before .before .before .before .before .before .before .before .before .before .before .before .before .before .before .before .before .args .right))) (c .before .before .before .before .before .before .before .before .before .before .before .before .before .before .before .before .before .before .before .before .before .before .args .i) (subℕ (c .before .before .before .before .before .before .before .before .before .before .before .before .before .before .before .before .before .before .before .before .before .before .args .j) 2048) (c .before .before .before .before .before .before .before .before .before .before .before .before .before .before .before .before .before .before .before .before .before .before .args .x) (c .before .before .before .before .before .before .before .before .before .before .before .before .before .before .before .before .before .before .before .before .before .before .args .y) (c .before .before .before .before .before .before .before .before .before .before .before .before .before .before .before .before .before .before .before .before .before .before .pre .0) (c .before .before .before .before .line-at3 .ensures) (c .before .before .before .before .before .before .before .before .before .before .before .before .before .before .before .before .before .before .line-at .ensures) (c .before .before .before .before .before .before .before .before .before .before .before .before .before .before .before .before .before .line-at2 .ensures) (c .before .before .before .line-at4 .ensures))
 
 pub in-square-spec : {M : Type 1} → statement M
 in-square-spec =

@@ -1,137 +1,64 @@
+-- `shape::elevation::quick` meets its contract: so far every row was in order, or the pass stops. Assumes nothing.
+use mathlib.Core.Path.{_≡_, refl}
+use Prim.Native.Nat.{_≤_, _-_}
+use native.Mathlib.Omega.{arith}
+use borrow.Author.Tests.{not-true, not-false}
+use borrow.Author.Needs.{needs}
+use denote.Ref.{now}
+use Rattle.shape.specs.Elevation.{rowCount}
+use Rattle.shape.proofs.Surveys.{Seen, seen-start, seen-next, odd-left, odd-right, seen-all, seen-odd}
 use Rattle.shape.proofs.elevation.quick.Statement.{statement}
 use Rattle.shape.proofs.elevation.quick.Tie as tie
-use Rattle.shape.proofs.elevation.quick.Reads as reads
-use Rattle.shape.proofs.elevation.quick.Lts as lts
-use Rattle.shape.proofs.elevation.in_order.Reads as in-order-reads
-use Rattle.shape.proofs.elevation.larger.Reads as larger-reads
-use Rattle.shape.proofs.elevation.span.Reads as span-reads
-use Rattle.shape.proofs.elevation.wide.Reads as wide-reads
 
 abbrev Inv-loop : tie.InvT-loop
-Inv-loop rows left right m most₀ last-left₀ last-right₀ k₀ most last-left last-right k = ?
+Inv-loop rows left right m most₀ last-left₀ last-right₀ k₀ most last-left last-right k = Seen rows left right most last-left last-right k × (k ≤ m)
 
 abbrev μ-loop : tie.MeasureT-loop
-μ-loop rows left right m most₀ last-left₀ last-right₀ k₀ most last-left last-right k = ?
+μ-loop rows left right m most₀ last-left₀ last-right₀ k₀ most last-left last-right k = m - k
 
--- src/elevation.rt:533:5
 loop-holds : tie.Need-loop-holds Inv-loop μ-loop
-loop-holds c = ?
+loop-holds c = (seen-start (now (c .before .args .rows)) (c .before .args .left) (c .before .args .right), omega arith)
 
--- src/elevation.rt:534:18
-mul-at : tie.Need-mul-at Inv-loop μ-loop
-mul-at c = ?
+row-requires : tie.Need-row-requires Inv-loop μ-loop
+row-requires c κs = omega arith
 
--- src/elevation.rt:535:27
-add-wide : tie.Need-add-wide Inv-loop μ-loop
-add-wide c = ?
-
--- src/elevation.rt:535:22
-mul-wide : tie.Need-mul-wide Inv-loop μ-loop
-mul-wide c = ?
-
--- src/elevation.rt:535:22
-shared-slice-read-wide : tie.Need-shared-slice-read-wide Inv-loop μ-loop
-shared-slice-read-wide c = ?
-
--- src/elevation.rt:535:13
-wide-requires : tie.Need-wide-requires Inv-loop μ-loop
-wide-requires c κs = ?
-
--- src/elevation.rt:536:27
-add-wide-2 : tie.Need-add-wide-2 Inv-loop μ-loop
-add-wide-2 c = ?
-
--- src/elevation.rt:536:22
-mul-wide-2 : tie.Need-mul-wide-2 Inv-loop μ-loop
-mul-wide-2 c = ?
-
--- src/elevation.rt:536:22
-shared-slice-read-wide-2 : tie.Need-shared-slice-read-wide-2 Inv-loop μ-loop
-shared-slice-read-wide-2 c = ?
-
--- src/elevation.rt:536:13
-wide-requires-2 : tie.Need-wide-requires-2 Inv-loop μ-loop
-wide-requires-2 c κs = ?
-
--- src/elevation.rt:537:13
 in-order-requires : tie.Need-in-order-requires Inv-loop μ-loop
-in-order-requires c κs = ?
+in-order-requires c κs = search needs
 
--- src/elevation.rt:538:13
 returns : tie.Need-returns Inv-loop μ-loop
-returns c = ?
+returns c = seen-odd (now (c .before .before .before .before .before .before .before .before .args .rows)) (c .before .before .before .before .before .before .before .before .args .left) (c .before .before .before .before .before .before .before .before .args .right) (odd-left (now (c .before .before .before .before .before .before .before .before .args .rows)) (c .before .before .before .before .before .before .before .before .args .left) (c .before .before .before .before .before .before .before .before .args .right) (c .before .before .before .before .before .before .loop .inv .0) (c .before .before .before .before .row .ensures .0) (rowCount (now (c .before .before .before .before .before .before .before .before .args .rows))) (omega (arith, c .before .before .before .before .before .before .before .before .pre, c .before .before .before .before .before .loop-test)) (c .before .in-order .ensures) (not-true (c .before .in-order .result) (c .if1 .taken)))
 
--- src/elevation.rt:540:27
-add-wide-3 : tie.Need-add-wide-3 Inv-loop μ-loop
-add-wide-3 c = ?
-
--- src/elevation.rt:540:22
-mul-wide-3 : tie.Need-mul-wide-3 Inv-loop μ-loop
-mul-wide-3 c = ?
-
--- src/elevation.rt:540:22
-shared-slice-read-wide-3 : tie.Need-shared-slice-read-wide-3 Inv-loop μ-loop
-shared-slice-read-wide-3 c = ?
-
--- src/elevation.rt:540:13
-wide-requires-3 : tie.Need-wide-requires-3 Inv-loop μ-loop
-wide-requires-3 c κs = ?
-
--- src/elevation.rt:541:27
-add-wide-4 : tie.Need-add-wide-4 Inv-loop μ-loop
-add-wide-4 c = ?
-
--- src/elevation.rt:541:22
-mul-wide-4 : tie.Need-mul-wide-4 Inv-loop μ-loop
-mul-wide-4 c = ?
-
--- src/elevation.rt:541:22
-shared-slice-read-wide-4 : tie.Need-shared-slice-read-wide-4 Inv-loop μ-loop
-shared-slice-read-wide-4 c = ?
-
--- src/elevation.rt:541:13
-wide-requires-4 : tie.Need-wide-requires-4 Inv-loop μ-loop
-wide-requires-4 c κs = ?
-
--- src/elevation.rt:542:13
 in-order-requires-2 : tie.Need-in-order-requires-2 Inv-loop μ-loop
-in-order-requires-2 c κs = ?
+in-order-requires-2 c κs = search needs
 
--- src/elevation.rt:543:13
 returns-2 : tie.Need-returns-2 Inv-loop μ-loop
-returns-2 c = ?
+returns-2 c = seen-odd (now (c .before .before .before .before .before .before .before .before .before .before .args .rows)) (c .before .before .before .before .before .before .before .before .before .before .args .left) (c .before .before .before .before .before .before .before .before .before .before .args .right) (odd-right (now (c .before .before .before .before .before .before .before .before .before .before .args .rows)) (c .before .before .before .before .before .before .before .before .before .before .args .left) (c .before .before .before .before .before .before .before .before .before .before .args .right) (c .before .before .before .before .before .before .before .before .loop .inv .0) (c .before .before .before .before .before .before .row .ensures .0) (rowCount (now (c .before .before .before .before .before .before .before .before .before .before .args .rows))) (omega (arith, c .before .before .before .before .before .before .before .before .before .before .pre, c .before .before .before .before .before .before .before .loop-test)) (c .before .in-order2 .ensures) (not-true (c .before .in-order2 .result) (c .if2 .taken)))
 
--- src/elevation.rt:545:36
 span-requires : tie.Need-span-requires Inv-loop μ-loop
-span-requires c κs = ?
+span-requires c κs = search needs
 
--- src/elevation.rt:545:23
 larger-requires : tie.Need-larger-requires Inv-loop μ-loop
-larger-requires c κs = ?
+larger-requires c κs = search needs
 
--- src/elevation.rt:545:49
 span-requires-2 : tie.Need-span-requires-2 Inv-loop μ-loop
-span-requires-2 c κs = ?
+span-requires-2 c κs = search needs
 
--- src/elevation.rt:545:9
 larger-requires-2 : tie.Need-larger-requires-2 Inv-loop μ-loop
-larger-requires-2 c κs = ?
+larger-requires-2 c κs = search needs
 
--- src/elevation.rt:548:9
 add-k : tie.Need-add-k Inv-loop μ-loop
-add-k c = ?
+add-k c = omega arith
 
--- src/elevation.rt:533:5
 loop-less : tie.Need-loop-less Inv-loop μ-loop
-loop-less c = ?
+loop-less c = omega arith
 
--- src/elevation.rt:533:5
 loop-again : tie.Need-loop-again Inv-loop μ-loop
-loop-again c = ?
+loop-again c = 
+    (seen-next (now (c .before .before .before .before .before .before .before .before .before .before .before .before .before .before .args .rows)) (c .before .before .before .before .before .before .before .before .before .before .before .before .before .before .args .left) (c .before .before .before .before .before .before .before .before .before .before .before .before .before .before .args .right) (c .before .before .before .before .before .before .before .before .before .before .before .before .loop .inv .0) (c .before .before .before .before .before .before .before .before .before .before .row .ensures .0) (c .before .before .before .before .before .before .before .in-order .ensures) (not-false (c .before .before .before .before .before .before .before .in-order .result) (c .before .before .before .before .before .before .if1 .left)) (c .before .before .before .before .before .in-order2 .ensures) (not-false (c .before .before .before .before .before .in-order2 .result) (c .before .before .before .before .if2 .left))
+    (rw (c .larger2 .ensures, c .before .span2 .ensures, c .before .before .larger .ensures, c .before .before .before .span .ensures)), omega arith)
 
--- src/elevation.rt:525:1
 returns-3 : tie.Need-returns-3 Inv-loop μ-loop
-returns-3 c = ?
+returns-3 c = let e : c .before .loop .k ≡ rowCount (now (c .before .before .before .args .rows)) = omega (arith, c .before .loop .inv .1, c .before .before .before .pre) in seen-all (now (c .before .before .before .args .rows)) (c .before .before .before .args .left) (c .before .before .before .args .right) (rw e at (c .before .loop .inv .0))
 
 pub quick-spec : {M : Type 1} → statement M
 quick-spec =
@@ -140,25 +67,9 @@ quick-spec =
     Inv-loop
     μ-loop
     loop-holds
-    mul-at
-    add-wide
-    mul-wide
-    shared-slice-read-wide
-    wide-requires
-    add-wide-2
-    mul-wide-2
-    shared-slice-read-wide-2
-    wide-requires-2
+    row-requires
     in-order-requires
     returns
-    add-wide-3
-    mul-wide-3
-    shared-slice-read-wide-3
-    wide-requires-3
-    add-wide-4
-    mul-wide-4
-    shared-slice-read-wide-4
-    wide-requires-4
     in-order-requires-2
     returns-2
     span-requires

@@ -1,41 +1,35 @@
+-- `shape::elevation::row_slopes` meets its contract, by which ends are there. Assumes nothing.
+use Rattle.shape.specs.Elevation.{edgeOf}
 use borrow.Author.Needs.{needs}
 use Rattle.shape.proofs.elevation.row_slopes.Statement.{statement}
 use Rattle.shape.proofs.elevation.row_slopes.Tie as tie
-use Rattle.shape.proofs.elevation.row_slopes.Reads as reads
-use Rattle.shape.proofs.elevation.row_slopes.Lts as lts
-use Rattle.shape.proofs.elevation.slopes.Reads as slopes-reads
 
--- src/elevation.rt:204:18
 enum-known-first : tie.Need-enum-known-first
 enum-known-first c = search needs
 
--- src/elevation.rt:205:9
 enum-told : tie.Need-enum-told
 enum-told c = search needs
 
--- src/elevation.rt:205:9
 returns : tie.Need-returns
-returns c = ?
+unfolding edgeOf
+returns c = rw (c .enum-told .given .1)
 
--- src/elevation.rt:207:18
 enum-known-second : tie.Need-enum-known-second
 enum-known-second c = search needs
 
--- src/elevation.rt:208:9
 enum-told-2 : tie.Need-enum-told-2
 enum-told-2 c = search needs
 
--- src/elevation.rt:208:9
 returns-2 : tie.Need-returns-2
-returns-2 c = ?
+unfolding edgeOf
+returns-2 c = rw (c .before .before .before .first .given .1, c .enum-told2 .given .1)
 
--- src/elevation.rt:210:18
 slopes-requires : tie.Need-slopes-requires
 slopes-requires c κs = search needs
 
--- src/elevation.rt:197:1
 returns-3 : tie.Need-returns-3
-returns-3 c = ?
+unfolding edgeOf
+returns-3 c = rw (c .before .before .before .before .before .first .given .1, c .before .before .second .given .1, c .slopes .ensures)
 
 pub row-slopes-spec : {M : Type 1} → statement M
 row-slopes-spec =

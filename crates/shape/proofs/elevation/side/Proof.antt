@@ -1,32 +1,27 @@
+-- `shape::elevation::side` meets its contract, by the tests. Assumes nothing.
+use denote.Ref.{now}
+use Rattle.shape.proofs.Heights.{held, short-run, short-list}
 use borrow.Author.Needs.{needs}
 use Rattle.shape.proofs.elevation.side.Statement.{statement}
 use Rattle.shape.proofs.elevation.side.Tie as tie
-use Rattle.shape.proofs.elevation.side.Reads as reads
-use Rattle.shape.proofs.elevation.side.Lts as lts
 
--- src/elevation.rt:107:13
 add-k : tie.Need-add-k
 add-k c = search needs
 
--- src/elevation.rt:110:29
 mul-t8 : tie.Need-mul-t8
 mul-t8 c = search needs
 
--- src/elevation.rt:110:29
 shared-slice-read-t10 : tie.Need-shared-slice-read-t10
 shared-slice-read-t10 c = search needs
 
--- src/elevation.rt:110:13
 returns : tie.Need-returns
-returns c = ?
+returns c = held (now (c .before .before .before .before .before .args .xs)) (c .before .before .before .before .before .args .run) (c .before .before .before .before .before .args .n) (c .before .before .if1 .taken) (c .before .if2 .taken)
 
--- src/elevation.rt:103:1
 returns-2 : tie.Need-returns-2
-returns-2 c = ?
+returns-2 c = short-list (now (c .before .before .before .before .args .xs)) (c .before .before .before .before .args .run) (c .before .before .before .before .args .n) (c .if2 .left)
 
--- src/elevation.rt:103:1
 returns-3 : tie.Need-returns-3
-returns-3 c = ?
+returns-3 c = short-run (now (c .before .before .before .args .xs)) (c .before .before .before .args .run) (c .before .before .before .args .n) (c .if1 .left)
 
 pub side-spec : {M : Type 1} → statement M
 side-spec = tie.close (tie.spec add-k mul-t8 shared-slice-read-t10 returns returns-2 returns-3)

@@ -1,37 +1,36 @@
+-- `shape::elevation::GridRow::at` meets its contract, by the side that the column is on. Assumes nothing.
+use mathlib.Core.Path.{_≡_}
+use Prim.Native.Nat.{_<_}
+use native.Mathlib.Omega.{arith}
+use Rattle.shape.specs.Elevation.{columnOf}
+use Rattle.shape.proofs.Heights.{left-line, right-line}
 use borrow.Author.Needs.{needs}
 use Rattle.shape.proofs.elevation.GridRow.at.Statement.{statement}
 use Rattle.shape.proofs.elevation.GridRow.at.Tie as tie
-use Rattle.shape.proofs.elevation.GridRow.at.Reads as reads
-use Rattle.shape.proofs.elevation.GridRow.at.Lts as lts
-use Rattle.shape.proofs.elevation.side.Reads as side-reads
 
--- src/elevation.rt:123:13
 returns : tie.Need-returns
-returns c = ?
+unfolding columnOf
+returns c = let e : c .before .before .before .args .j ≡ 2048 = c .if1 .taken in rw e
 
--- src/elevation.rt:127:36
 sub-side : tie.Need-sub-side
 sub-side c = search needs
 
--- src/elevation.rt:127:13
 side-requires : tie.Need-side-requires
 side-requires c κs = search needs
 
--- src/elevation.rt:127:13
 returns-2 : tie.Need-returns-2
-returns-2 c = ?
+unfolding columnOf
+returns-2 c = rw (left-line (c .before .before .before .before .before .before .args .j) (c .before .before .if2 .taken)) (c .side .ensures)
 
--- src/elevation.rt:130:26
 sub-side-2 : tie.Need-sub-side-2
 sub-side-2 c = search needs
 
--- src/elevation.rt:130:9
 side-requires-2 : tie.Need-side-requires-2
 side-requires-2 c κs = search needs
 
--- src/elevation.rt:118:5
 returns-3 : tie.Need-returns-3
-returns-3 c = ?
+unfolding columnOf
+returns-3 c = let h : c .before .before .before .before .before .before .args .j < 2048 = omega (arith, c .before .before .if2 .left, c .before .before .before .if1 .left) in rw (right-line (c .before .before .before .before .before .before .args .j) h) (c .side2 .ensures)
 
 pub at-spec : {M : Type 1} → statement M
 at-spec =
