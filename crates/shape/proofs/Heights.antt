@@ -7,11 +7,11 @@ use native.Mathlib.Decide.{decLt}
 use native.Mathlib.Nat.{zero-lt-suc}
 use native.Mathlib.Omega.{arith}
 use borrow.Author.Tests.{lt-ltb, le-ltb}
-use lib.Dec.{T, ltb}
+use lib.Dec.{T, ltb, le→leb}
 use lib.IntN.{ℤ, pos, negsuc, negℤ, sucℤ, predℤ, subℕ}
 use lib.ListN.{length, getD, take, drop, length-take, length-drop}
 use lib.Seq.{getD-take, getD-drop}
-use lib.Ieee.{Float, nan, inf, fin, binary64, up, down, le, neg, round, ofBits, ofInt, toUnsigned, toSigned}
+use lib.Ieee.{Float, nan, inf, fin, binary64, up, down, le, neg, round, ofBits, ofInt, inFloat, toUnsigned, toSigned}
 use Rattle.rounding.specs.Whole.{wholeOf}
 use Rattle.rounding.specs.Laws.Order.{le-trans}
 use Rattle.rounding.specs.Laws.Rounding.{neg-anti, round-order}
@@ -162,6 +162,10 @@ top-round = refl
 count-few : (n : ℕ) → n ≤ 1024 → T (le (count n) 1024d)
 unfolding ofInt
 count-few n h = rw (← top-round) (round-order binary64 false n 1 false 1024 1 (zero-lt-suc 0) (zero-lt-suc 0) (omega arith))
+
+pub count-whole : (n : ℕ) → n ≤ 1024 → T (inFloat binary64 (pos n))
+unfolding inFloat
+count-whole n h = le→leb n (2 ^ 53) (omega arith)
 
 low-zero : T (le (neg 1024d) (ofBits binary64 0))
 unfolding le ofBits neg

@@ -4,6 +4,7 @@ use native.Mathlib.Omega.{arith}
 use borrow.Author.Tests.{eq-eqb, ne-eqb, not-true, not-false}
 use denote.Ref.{now}
 use Rattle.shape.specs.Elevation.{valueOf}
+use Rattle.shape.proofs.Heights.{count-whole}
 use Rattle.shape.proofs.Squares.{spacing-nan, spacing-low, no-rows, some-rows, off-rows, off-columns, on-both, on-grid-is, row-near, column-near}
 use borrow.Author.Needs.{needs}
 use Rattle.shape.proofs.elevation.height_in.Statement.{statement}
@@ -28,10 +29,10 @@ sub-last : tie.Need-sub-last
 sub-last c = search needs
 
 int-to-float-last : tie.Need-int-to-float-last
-int-to-float-last c = ?
+int-to-float-last c = count-whole _ (omega (arith, c .before .before .before .before .before .before .before .before .before .before .pre .few))
 
 int-to-float-wide : tie.Need-int-to-float-wide
-int-to-float-wide c = ?
+int-to-float-wide c = count-whole _ (c .before .before .before .before .before .before .before .before .before .before .before .pre .narrow)
 
 between-requires : tie.Need-between-requires
 between-requires c κs = search needs
