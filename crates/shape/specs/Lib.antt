@@ -6,4 +6,5 @@ pub mod Lists
 pub mod Double
 pub mod Elevation
 pub mod ElevationSteps
+pub mod CasesElevation
 pub mod Laws
