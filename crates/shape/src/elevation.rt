@@ -143,6 +143,12 @@ impl GridRow {
     }
 }
 
+fn wide(x: u32) -> usize
+    ensures { λ r. ⌜ (r ≡ x) × (r < 2 ^ 32) ⌝ }
+{
+    x as usize
+}
+
 // Row i of the grid, which has it.
 fn row(rows: &[u32], i: usize) -> GridRow
     requires { ⌜ 6 * i + 5 < length (now rows) ⌝ }
@@ -227,6 +233,7 @@ pub fn row_slopes(line: Line) -> Across
     Across::Both(slopes(before, b, c, after))
 }
 
+// The slope at the edge's first point.
 fn first_of(x: Across) -> Spot
     ensures { λ r. ⌜ r ≡ firstOf x ⌝ }
 {
@@ -236,6 +243,7 @@ fn first_of(x: Across) -> Spot
     Spot::At(t.first)
 }
 
+// The slope at the edge's second point.
 fn second_of(x: Across) -> Spot
     ensures { λ r. ⌜ r ≡ secondOf x ⌝ }
 {
@@ -250,10 +258,41 @@ fn second_of(x: Across) -> Spot
 // The matrix that turns a square's corners, slopes and twists into its coefficients, and the same
 // transposed.
 const A: [f64; 16] = [
-    1.0, 0.0, 0.0, 0.0, 0.0, 0.0, 1.0, 0.0, -3.0, 3.0, -2.0, -1.0, 2.0, -2.0, 1.0, 1.0,
+    1.0,
+    0.0,
+    0.0,
+    0.0,
+    0.0,
+    0.0,
+    1.0,
+    0.0,
+    -3.0,
+    3.0,
+    -2.0,
+    -1.0,
+    2.0,
+    -2.0,
+    1.0,
+    1.0,
 ];
+
 const A_TRANSPOSED: [f64; 16] = [
-    1.0, 0.0, -3.0, 2.0, 0.0, 0.0, 3.0, -2.0, 0.0, 1.0, -2.0, 1.0, 0.0, 0.0, -1.0, 1.0,
+    1.0,
+    0.0,
+    -3.0,
+    2.0,
+    0.0,
+    0.0,
+    3.0,
+    -2.0,
+    0.0,
+    1.0,
+    -2.0,
+    1.0,
+    0.0,
+    0.0,
+    -1.0,
+    1.0,
 ];
 
 // Entry (r, c) of the product of a and b.
@@ -267,6 +306,7 @@ fn entry(a: Patch, b: Patch, r: usize, c: usize) -> f64
     x[k] * y[c] + x[k + 1] * y[4 + c] + x[k + 2] * y[8 + c] + x[k + 3] * y[12 + c]
 }
 
+// The product of two matrices.
 pub fn mul(a: Patch, b: Patch) -> Patch
     ensures { λ r. ⌜ r ≡ mulOf a b ⌝ }
 {
@@ -350,8 +390,22 @@ fn frame(p: Line, q: Line, r: Line, w: Line, z00: f64, z01: f64, z10: f64, z11: 
     let st1 = slopes(second_of(tp), t0.second, t1.second, second_of(tw));
     Patch {
         m: [
-            z00, z01, t0.first, t0.second, z10, z11, t1.first, t1.second, s0.first, s1.first,
-            st0.first, st1.first, s0.second, s1.second, st0.second, st1.second,
+            z00,
+            z01,
+            t0.first,
+            t0.second,
+            z10,
+            z11,
+            t1.first,
+            t1.second,
+            s0.first,
+            s1.first,
+            st0.first,
+            st1.first,
+            s0.second,
+            s1.second,
+            st0.second,
+            st1.second,
         ],
     }
 }
@@ -410,8 +464,8 @@ fn place_of(at: f64) -> Place
     }
 }
 
-// The height at (x, column) in the squares from row i - 2048: on a grid line in the square above it,
-// else in the one below.
+// The height at x past row i - 2048 and at a column's place: on a grid line in the square above it, else
+// in the one below.
 fn in_row(rows: &[u32], left: &[f64], right: &[f64], i: usize, x: f64, column: Place) -> Spot
     requires { ⌜ (0 < i) × (i < 2 ^ 30) × (1 < column .line) × (column .line < 2 ^ 30) ⌝ }
     ensures { λ r. ⌜ r ≡ triedAt (λ (j : ℤ) (y : Float). inSquare (valueOf (now (rows .entry)) (now (left .entry)) (now (right .entry))) (subℕ i 2048) x j y) (subℕ (column .line) 2048) (column .part) ⌝ }
@@ -426,6 +480,8 @@ fn in_row(rows: &[u32], left: &[f64], right: &[f64], i: usize, x: f64, column: P
     in_square(rows, left, right, i, x, column.line, column.part)
 }
 
+// The height at a row's place and a column's: on a grid line in the squares above it, else in those
+// below.
 fn on_grid(rows: &[u32], left: &[f64], right: &[f64], row: Place, column: Place) -> Spot
     requires { ⌜ (1 < row .line) × (row .line < 2 ^ 30) × (1 < column .line) × (column .line < 2 ^ 30) ⌝ }
     ensures { λ r. ⌜ r ≡ triedAt (λ (i : ℤ) (x : Float). triedAt (λ (j : ℤ) (y : Float). inSquare (valueOf (now (rows .entry)) (now (left .entry)) (now (right .entry))) i x j y) (subℕ (column .line) 2048) (column .part)) (subℕ (row .line) 2048) (row .part) ⌝ }
@@ -440,6 +496,7 @@ fn on_grid(rows: &[u32], left: &[f64], right: &[f64], row: Place, column: Place)
     in_row(rows, left, right, row.line, row.part, column)
 }
 
+// A NaN is never between.
 fn between(lo: f64, x: f64, hi: f64) -> bool
     ensures { λ r. ⌜ r ≡ within lo x hi ⌝ }
 {
@@ -447,7 +504,7 @@ fn between(lo: f64, x: f64, hi: f64) -> bool
 }
 
 // The height at (s, t) along and to the left of the reference line, in lists that are not faulty.
-// `most` is what `widest` gives for the rows.
+// `most` is their longest side, as `survey` finds it.
 pub fn height_in(
     grid: ElevationGrid,
     rows: &[u32],
@@ -500,18 +557,13 @@ pub enum Pass {
     Sound(usize),
 }
 
-fn wide(x: u32) -> usize
-    ensures { λ r. ⌜ (r ≡ x) × (r < 2 ^ 32) ⌝ }
-{
-    x as usize
-}
-
 fn larger(a: usize, b: usize) -> usize
     ensures { λ r. ⌜ r ≡ max a b ⌝ }
 {
     if a < b { b } else { a }
 }
 
+// How long a run is.
 fn span(run: Run) -> usize
     ensures { λ r. ⌜ r ≡ run .end - run .start ⌝ }
 {
