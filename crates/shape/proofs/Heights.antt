@@ -1,15 +1,15 @@
 -- Laws behind the height in a junction: heights of a run, lines held with 2,048 added, the place of a coordinate, and what a pass over the rows shows. Assumes nothing.
-use mathlib.Core.Path.{_≡_, refl, sym, ap, _∙_}
-use mathlib.Core.Bool.{Bool, true, false, cond, not, _||_}
+use mathlib.Core.Path.{_≡_, refl, sym}
+use mathlib.Core.Bool.{Bool, true, false, _||_}
 use mathlib.Core.List.{List}
-use Prim.Native.Nat.{ℕ, zero, suc, _+_, _-_, _*_, _/_, _^_, _≤_, _<_, min, max}
+use Prim.Native.Nat.{ℕ, zero, suc, _+_, _-_, _*_, _/_, _^_, _≤_, _<_, min}
 use native.Mathlib.Decide.{decLt}
 use native.Mathlib.Nat.{zero-lt-suc}
 use native.Mathlib.Omega.{arith}
 use borrow.Author.Tests.{lt-ltb, le-ltb}
-use lib.Dec.{T, ltb, le→leb}
-use lib.IntN.{ℤ, pos, negsuc, negℤ, sucℤ, predℤ, subℕ}
-use lib.ListN.{length, getD, take, drop, length-take, length-drop}
+use lib.Dec.{T, le→leb}
+use lib.IntN.{pos, negsuc, negℤ, sucℤ, predℤ, subℕ}
+use lib.ListN.{length, getD, drop, length-take, length-drop}
 use lib.Seq.{getD-take, getD-drop}
 use lib.Ieee.{Float, nan, inf, fin, binary64, up, down, le, neg, round, ofBits, ofInt, inFloat, toUnsigned, toSigned}
 use Rattle.rounding.specs.Whole.{wholeOf}
@@ -19,12 +19,10 @@ use Rattle.rounding.specs.Laws.Count.{toUnsigned-mono}
 use Rattle.rounding.specs.Laws.Whole.{floor-mono}
 use Rattle.shape.specs.Gather.{any}
 use Rattle.shape.specs.Lists.{startOf, endOf, runLong}
-use Rattle.shape.specs.Laws.Gather.{any-next, or-left, or-right}
 use Rattle.shape.specs.Laws.Lists.{short}
 use Rattle.shape.specs.Elevation.{nth, part, floored, longest, widestOf, rowCount, count}
 use Rattle.shape.specs.ElevationSteps.{1024d, Near}
 use Rattle.shape.specs.declared.elevation.Run.{Run}
-use Rattle.shape.specs.declared.elevation.Spot.{Spot}
 use Rattle.shape.specs.declared.elevation.Spot.the-variants.{Missing, At}
 
 -- ---- height n of a run

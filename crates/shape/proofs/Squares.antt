@@ -1,12 +1,12 @@
 -- Laws behind the height in a junction: the lines around a square, the square itself, the squares that are tried, and the cases of the height. Assumes nothing.
-use mathlib.Core.Path.{_≡_, refl, sym, ap, _∙_}
-use mathlib.Core.Bool.{Bool, true, false, cond, _&&_, _||_}
+use mathlib.Core.Path.{_≡_, refl, ap, _∙_}
+use mathlib.Core.Bool.{Bool, true, false, _&&_, _||_}
 use mathlib.Core.List.{List}
-use Prim.Native.Nat.{ℕ, zero, suc, _+_, _-_, _*_, _/_, _≤_, _<_}
+use Prim.Native.Nat.{ℕ, _+_, _-_, _*_, _≤_, _<_}
 use native.Mathlib.Omega.{arith}
 use borrow.Author.Tests.{lt-ltb, le-ltb}
-use lib.Dec.{T, ltb, eqb}
-use lib.IntN.{ℤ, sucℤ, predℤ, subℕ}
+use lib.Dec.{T, eqb}
+use lib.IntN.{ℤ, predℤ, subℕ}
 use lib.ListN.{length}
 use lib.Ieee.{Float, nan, inf, fin, le, eq, ne, neg, isNan, toSigned}
 use Rattle.rounding.specs.Laws.Order.{T-of, not-T-of, nan-of-differs}
@@ -17,7 +17,6 @@ use Rattle.shape.specs.declared.elevation.ElevationGrid.{ElevationGrid}
 use Rattle.shape.specs.declared.elevation.Spot.{Spot}
 use Rattle.shape.specs.declared.elevation.Spot.the-variants.{Missing, At}
 use Rattle.shape.specs.declared.elevation.Line.{Line}
-use Rattle.shape.specs.declared.elevation.Patch.{Patch}
 use Rattle.shape.specs.declared.elevation.Place.{Place}
 use Rattle.shape.proofs.Heights.{next-line, after-line, last-line, row-line, no-row, near-row, near-column}
 

@@ -3,22 +3,18 @@ use mathlib.Core.Path.{_≡_, refl, sym, ap, _∙_}
 use mathlib.Core.Logic.{_⊎_, inl, inr}
 use mathlib.Core.Bool.{Bool, true, false, cond, not, _||_}
 use mathlib.Core.List.{List}
-use Prim.Native.Nat.{ℕ, zero, suc, _+_, _-_, _*_, _/_, _%_, _≤_, _<_, max}
+use Prim.Native.Nat.{ℕ, _+_, _-_, _*_, _≤_, _<_, max}
 use native.Mathlib.Numerals.{add-one}
 use native.Mathlib.Omega.{arith}
-use borrow.Author.Tests.{ltb-false, le-ltb, not-true, not-false}
-use lib.Dec.{ltb, eqb}
+use borrow.Author.Tests.{ltb-false, not-true, not-false}
 use lib.ListN.{length}
 use Rattle.shape.specs.Gather.{any}
 use Rattle.shape.specs.Lists.{longer, uneven, wordOf, lastEnd, runBad, runLong}
 use Rattle.shape.specs.Laws.Gather.{any-next, or-left, or-right}
 use Rattle.shape.specs.Elevation.{rowOf, rowCount, longest, widestOf, gridLong, gridRagged, findingOf}
 use Rattle.shape.specs.ElevationSteps.{oddRun, oddRuns, passOf, faultOf, Limits}
-use Rattle.shape.specs.declared.elevation.Run.{Run}
 use Rattle.shape.specs.declared.elevation.GridRow.{GridRow}
-use Rattle.shape.specs.declared.elevation.Pass.{Pass}
 use Rattle.shape.specs.declared.elevation.Pass.the-variants.{Odd, Sound}
-use Rattle.shape.specs.declared.elevation.Finding.{Finding}
 use Rattle.shape.specs.declared.elevation.Finding.the-variants.{Long, Ragged, Widest}
 use Rattle.shape.proofs.Heights.{any-some, widest-few}
 

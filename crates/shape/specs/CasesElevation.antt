@@ -1,14 +1,13 @@
 -- Document 01, the cases marked [P] of "Height in a junction", as one list of tests that are all true by computation. Assumes nothing.
-use mathlib.Core.Path.{_≡_, refl, sym, ap, _∙_}
-use mathlib.Core.Logic.{_⊎_, inl, inr, ⊎-elim}
+use mathlib.Core.Path.{_≡_, refl}
+use mathlib.Core.Logic.{_⊎_, inl, inr}
 use mathlib.Core.Bool.{Bool, true, false, cond, _&&_, _||_}
 use mathlib.Core.List.{List, [], _∷_}
 use Prim.Native.Nat.{ℕ, zero, suc, _-_, _≤_}
 use native.Mathlib.Omega.{arith}
 use borrow.Author.Tests.{le-ltb}
-use lib.Dec.{ltb, eqb}
+use lib.Dec.{eqb}
 use lib.IntN.{ℤ, pos, negsuc, sucℤ, predℤ}
-use lib.ListN.{length}
 use lib.Ieee.{Float, binary64, add, sub, mul, div, neg, lt, le, eq, isNan, ofBits, ofInt, toBits, toSigned}
 use Rattle.rounding.specs.Whole.{wholeOf}
 use Rattle.rounding.specs.Extremes.{absOf}
@@ -20,7 +19,6 @@ use Rattle.shape.specs.Elevation.{nth, rowOf, rowCount, columnOf, valueO
 use Rattle.shape.specs.declared.elevation.ElevationGrid.{ElevationGrid}
 use Rattle.shape.specs.declared.elevation.Spot.{Spot}
 use Rattle.shape.specs.declared.elevation.Spot.the-variants.{Missing, At}
-use Rattle.shape.specs.declared.elevation.Line.{Line}
 
 -- ---- the answers
 

@@ -7,7 +7,7 @@ use lib.Dec.{ltb, eqb}
 use lib.IntN.{ℤ, pos, negsuc, sucℤ, predℤ}
 use lib.ListN.{length, getD, take, drop}
 use lib.Ieee.{Float, nan, binary64, neg, lt, le, eq, isNan, ofBits, ofInt, toSigned}
-use Rattle.rounding.specs.Whole.{floorOf, roundOf, wholeOf}
+use Rattle.rounding.specs.Whole.{floorOf, roundOf}
 use Rattle.rounding.specs.Extremes.{absOf}
 use Rattle.shape.specs.Double.{_⊞_, _⊟_, _⊠_, _⧄_, double, 0d, 1d, 2d, 3d, 6d, -1d, -2d, -3d}
 use Rattle.shape.specs.Gather.{gather, any}
@@ -85,9 +85,11 @@ edgeOf a (At b) (At c) d = Both (slopesOf a b c d)
 edgeOf a (At b) Missing d = Bare
 edgeOf a Missing c d = Bare
 
+-- the slopes across a row, at its two middle points
 abbrev pub acrossOf : Line → Across
 acrossOf l = edgeOf (l .before) (l .first) (l .second) (l .after)
 
+-- the slope at the first point of an edge, and at the second
 unfoldable pub firstOf : Across → Spot
 firstOf Bare = Missing
 firstOf (Both t) = At (t .first)
@@ -159,6 +161,7 @@ surfaceOf p x y = sumTo (λ (n : ℕ). powerOf x (n / 4) ⊠ getD (p .m) n nan �
 
 -- ---- the square
 
+-- what follows from a height, if it is there
 unfoldable pub withHeight : Spot → (Float → Spot) → Spot
 withHeight Missing f = Missing
 withHeight (At z) f = f z
@@ -178,6 +181,7 @@ inSquare z i x j y = squareOf (lineOf (z (predℤ i)) j) (lineOf (z i) j) (lineO
 
 -- ---- the squares that are tried
 
+-- the first that is there
 unfoldable pub orElse : Spot → Spot → Spot
 orElse Missing b = b
 orElse (At z) b = At z
@@ -189,6 +193,7 @@ triedAt f i part = cond (eq part 0d) (orElse (f i 0d) (f (predℤ i) 1d)) (f i p
 abbrev pub floored : Float → Float
 floored at = floorOf binary64 at
 
+-- of the coordinate `at`: the line is its floor as a whole number (the Rust's `as i64`). A part of 0 is taken as +0, whatever its sign.
 unfoldable pub tried : (ℤ → Float → Spot) → Float → Spot
 tried f at = triedAt f (toSigned 63 (floored at)) (at ⊟ floored at)
 
@@ -249,9 +254,11 @@ gridLong rows = (longer 6 1024 rows || any (runLong 6 2 rows 1024) (rowCount row
 unfoldable pub gridRagged : List ℕ → ℕ → ℕ → Bool
 gridRagged rows l r = (uneven 6 rows || any (runBad 6 2 rows l) (rowCount rows)) || any (runBad 6 4 rows r) (rowCount rows)
 
+-- every fault past a limit has the place 1,024, and every ragged one the list of rows
 unfoldable pub gridFault : List ℕ → ℕ → ℕ → Fault
 gridFault rows l r = refuse (gridLong rows) 1 1024 (refuse (gridRagged rows l r) 2 0 fine)
 
+-- the fault, or what the height needs to know of lists without one
 unfoldable pub findingOf : List ℕ → ℕ → ℕ → Finding
 findingOf rows l r = cond (gridLong rows) Long (cond (gridRagged rows l r) Ragged (Widest (widestOf rows)))
 
@@ -261,6 +268,7 @@ answered (Height z) = taken (At z)
 answered None = taken Missing
 answered (Refused r) = refused (numberOf r) (placeOf r)
 
+-- `height` and `height_at`
 unfoldable pub heightAnswer : ElevationGrid → List ℕ → List Float → List Float → Float → Float → Answer Spot
 heightAnswer g rows left right s t = judge (gridFault rows (length left) (length right)) (taken (heightOf g rows left right s t))
 

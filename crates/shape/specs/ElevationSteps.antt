@@ -6,7 +6,7 @@ use mathlib.Core.List.{List}
 use Prim.Native.Nat.{ℕ, _-_, _≤_, _<_, _^_}
 use lib.Dec.{T, ltb}
 use lib.IntN.{subℕ}
-use lib.Ieee.{Float, binary64, le, neg, toSigned}
+use lib.Ieee.{Float, le, neg, toSigned}
 use Rattle.shape.specs.Double.{_⊟_, double}
 use Rattle.shape.specs.Gather.{any}
 use Rattle.shape.specs.Lists.{runBad, runLong}

@@ -4,13 +4,12 @@
 // 2,048 added, so that it is a count.
 ghost use mathlib.Core.Path.{_≡_};
 ghost use mathlib.Core.Bool.{not};
-ghost use Prim.Native.Nat.{ℕ, _+_, _-_, _*_, _/_, _^_, _≤_, _<_, max};
+ghost use Prim.Native.Nat.{_+_, _-_, _*_, _^_, _≤_, _<_, max};
 ghost use lib.ListN.{length};
 ghost use lib.IntN.{ℤ, subℕ};
-ghost use lib.Ieee.{Float, binary64};
-ghost use Rattle.shape.specs.Double.{_⊞_, _⊟_, _⊠_, _⧄_};
+ghost use lib.Ieee.{Float};
 ghost use Rattle.shape.specs.Refusal.{found};
-ghost use Rattle.shape.specs.Elevation.{nth, part, rowOf, columnOf, rowCount, valueOf, lineOf, straightOf, slopesOf, acrossOf, firstOf, secondOf, frameOf, entryOf, mulOf, coefficientsOf, surfaceOf, inSquare, triedAt, snapOf, within, widestOf, heightOf, locateOf, gridFault, findingOf, answered, heightAnswer, heightAtAnswer};
+ghost use Rattle.shape.specs.Elevation.{nth, part, rowOf, columnOf, rowCount, valueOf, lineOf, straightOf, slopesOf, acrossOf, firstOf, secondOf, frameOf, entryOf, mulOf, coefficientsOf, surfaceOf, inSquare, triedAt, snapOf, within, heightOf, locateOf, gridFault, findingOf, answered, heightAnswer, heightAtAnswer};
 ghost use Rattle.shape.specs.ElevationSteps.{oddRun, passOf, faultOf, Placed, Near, Limits};
 use crate::lists::any_long;
 use crate::refusal::Check;

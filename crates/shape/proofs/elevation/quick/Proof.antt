@@ -1,5 +1,5 @@
 -- `shape::elevation::quick` meets its contract: so far every row was in order, or the pass stops. Assumes nothing.
-use mathlib.Core.Path.{_≡_, refl}
+use mathlib.Core.Path.{_≡_}
 use Prim.Native.Nat.{_≤_, _-_}
 use native.Mathlib.Omega.{arith}
 use borrow.Author.Tests.{not-true, not-false}
