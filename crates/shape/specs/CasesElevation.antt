@@ -1,4 +1,4 @@
--- Document 01, the cases marked [P] of "Height in a junction", as one list of tests that are all true by computation. Assumes nothing.
+-- Document 01, the cases marked [P] of "Height in a junction", as one list of tests that are all true by computation, with some of the refusals. Assumes nothing.
 use mathlib.Core.Path.{_≡_, refl}
 use mathlib.Core.Logic.{_⊎_, inl, inr}
 use mathlib.Core.Bool.{Bool, true, false, cond, _&&_, _||_}
@@ -33,6 +33,10 @@ gives : Answer Spot → Spot → Bool
 gives (taken a) b = sameSpot a b
 gives (refused number place) b = false
 
+refuses : Answer Spot → ℕ → ℕ → Bool
+refuses (taken a) number place = false
+refuses (refused n p) number place = eqb n number && eqb p place
+
 abbrev allTrue : List Bool → Bool
 allTrue [] = true
 allTrue (b ∷ bs) = b && allTrue bs
@@ -66,6 +70,26 @@ cases =
 pub cases-hold : allTrue cases ≡ true
 unfolding sameSpot gives grid rows asked cases nth rowOf columnOf valueOf lineOf straightOf slopesOf edgeOf firstOf secondOf frameOf entryOf mulOf transposeOf bicubic coefficientsOf powerOf sumTo surfaceOf withHeight squareOf inSquare orElse triedAt tried onGrid snapOf longest widestOf within coordsOf heightOf gridLong gridRagged gridFault heightAnswer gather any longer uneven wordOf lastEnd runBad runLong refuse judge wholeOf absOf add sub mul div neg lt le eq isNan ofBits ofInt toBits toSigned
 cases-hold = refl
+
+-- ---- what is turned back: a part record, a run that ends before it starts, starts before the last one's end or ends past its list, and one past its limit,
+-- which comes before its being ragged
+
+turns : List ℕ → ℕ → ℕ → Bool
+turns rows number place = refuses (heightAnswer grid rows (ten ∷ ten ∷ []) [] five five) number place
+
+pub refusals : List Bool
+refusals =
+    turns (0 ∷ 0 ∷ 0 ∷ 1 ∷ 0 ∷ 0 ∷ 0 ∷ []) 2 0
+    ∷ turns (0 ∷ 0 ∷ 1 ∷ 0 ∷ 0 ∷ 0 ∷ []) 2 0
+    ∷ turns (0 ∷ 0 ∷ 0 ∷ 2 ∷ 0 ∷ 0 ∷ 0 ∷ 0 ∷ 1 ∷ 2 ∷ 0 ∷ 0 ∷ []) 2 0
+    ∷ turns (0 ∷ 0 ∷ 0 ∷ 1 ∷ 0 ∷ 1 ∷ []) 2 0
+    ∷ turns (0 ∷ 0 ∷ 0 ∷ 1024 ∷ 0 ∷ 0 ∷ []) 2 0
+    ∷ turns (0 ∷ 0 ∷ 0 ∷ 1025 ∷ 0 ∷ 0 ∷ []) 1 1024
+    ∷ turns (0 ∷ 0 ∷ 1 ∷ 0 ∷ 0 ∷ 1025 ∷ 0 ∷ []) 1 1024 ∷ []
+
+pub refusals-hold : allTrue refusals ≡ true
+unfolding refuses grid turns refusals heightAnswer gridFault gridLong gridRagged any longer uneven wordOf lastEnd runBad runLong refuse judge
+refusals-hold = refl
 
 -- ---- "One row alone: always none."
 
