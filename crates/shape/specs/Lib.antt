@@ -3,4 +3,8 @@ pub mod Gather
 pub mod Memory
 pub mod Refusal
 pub mod Lists
+pub mod Double
+pub mod Elevation
+pub mod ElevationSteps
+pub mod CasesElevation
 pub mod Laws
