@@ -3,4 +3,6 @@ pub mod Gather
 pub mod Memory
 pub mod Refusal
 pub mod Lists
+pub mod Strip
+pub mod SurfaceMesh
 pub mod Laws
