@@ -65,13 +65,11 @@ tiny = single 0x38d1_b717
 
 -- the distance from point a to point b
 unfoldable pub stepOf : List Float → ℕ → ℕ → Float
-unfolding lengthOf pointSub pointAt
 stepOf ps a b = lengthOf (pointSub (pointAt ps b) (pointAt ps a))
 
 -- "a point is kept if its distance from the last kept exceeds the larger of 0.1 and a quarter of the last step": point i, after
 -- the point `last`, which a step of length s led to
 unfoldable pub keeps : List Float → ℕ → Float → ℕ → Bool
-unfolding stepOf maxOf lt
 keeps ps last s i = lt (maxOf (quarter ⊗ s) tenth) (stepOf ps last i)
 
 -- the points kept, without the last of them; the last; the length of the step to it
@@ -81,7 +79,6 @@ pub record Weld : Type 0 where
   pub step : Float
 
 unfoldable pub weldNext : List Float → Weld → ℕ → Weld
-unfolding keeps
 weldNext ps w i =
     let k : Bool = keeps ps (w .last) (w .step) i in
     record {
@@ -92,7 +89,6 @@ weldNext ps w i =
 
 -- after the points 0 to n; point 0 is kept
 unfoldable pub welded : List Float → ℕ → Weld
-unfolding weldNext
 welded ps zero = record { front = []; last = 0; step = 0f }
 welded ps (suc n) = weldNext ps (welded ps n) (suc n)
 
@@ -104,60 +100,49 @@ lastOf (suc m) near e = e ∷ []
 
 -- the points kept of the first n
 unfoldable pub keptOf : List Float → ℕ → List ℕ
-unfolding welded lastOf
 keptOf ps zero = []
 keptOf ps (suc n) = let f : List ℕ = welded ps n .front in f ++ lastOf (length f) (lt (stepOf ps 0 n) micro) n
 
 unfoldable pub kept : Lane → List ℕ
-unfolding keptOf
 kept l = keptOf (l .points) (length (l .points) / 3)
 
 -- ---- ribs: one across the lane at each kept point
 
 unfoldable pub keptPoint : List Float → List ℕ → ℕ → Point
-unfolding pointAt
 keptPoint ps ks i = pointAt ps (getD ks i 0)
 
 -- a leg from a to b: its direction on the ground, and its length
 unfoldable pub legOf : Point → Point → Leg
-unfolding pointSub horizontalOf normalizeOrZero lengthOf
 legOf a b = record { way = normalizeOrZero (horizontalOf (pointSub b a)); length = lengthOf (pointSub b a) }
 
 -- where there is none
 unfoldable pub noLeg : Leg
-unfolding zeroVector
 noLeg = record { way = zeroVector; length = 0f }
 
 -- the legs into kept point i and out of it
 unfoldable pub legIn : List Float → List ℕ → ℕ → Leg
-unfolding keptPoint legOf noLeg
 legIn ps ks zero = noLeg
 legIn ps ks (suc i) = legOf (keptPoint ps ks i) (keptPoint ps ks (suc i))
 
 unfoldable pub legOut : List Float → List ℕ → ℕ → Leg
-unfolding keptPoint legOf noLeg
 legOut ps ks i = cond (ltb (i + 1) (length ks)) (legOf (keptPoint ps ks i) (keptPoint ps ks (i + 1))) noLeg
 
 -- along the lane: the tangent k, "a missing tangent is zero", and where it has no direction, between the legs
 unfoldable pub alongOf : List Float → ℕ → Vector → Vector → Vector
-unfolding vectorAt horizontalOf vectorAdd normalizeOrZero normalizeOr
 alongOf ts k inc out = normalizeOr (horizontalOf (vectorAt ts k)) (normalizeOrZero (vectorAdd inc out))
 
 -- rise over run from a to b
 unfoldable pub gradeOf : Point → Point → Float
-unfolding pointSub horizontalOf lengthOf lt
 gradeOf a b =
     let run : Float = lengthOf (horizontalOf (pointSub b a)) in
     cond (lt micro run) ((b .z ⊖ a .z) ⊘ run) 0f
 
 -- along the lane with the grade from a to b
 unfoldable pub slopeOf : Vector → Point → Point → Vector
-unfolding gradeOf vectorMul upVector vectorAdd normalizeOr
 slopeOf along a b = normalizeOr (vectorAdd along (vectorMul upVector (gradeOf a b))) along
 
 -- across the lane: its left, rolled about its direction by the bank k, "a missing bank is (0, 1)"
 unfoldable pub lateralOf : List Float → ℕ → Vector → Vector → Vector
-unfolding rotateAbout
 lateralOf bs k left along = rotateAbout left along (getD bs (2 * k) 0f) (getD bs (2 * k + 1) 1f)
 
 -- half the width k, "a missing width the default"
@@ -166,29 +151,23 @@ halfOf ws k w = getD ws k w ⊗ half
 
 -- at a corner: the shorter leg; how much of it an offset of 1 eats, the sine of half the turn
 unfoldable pub shorterOf : Leg → Leg → Float
-unfolding minOf
 shorterOf inc out = minOf (inc .length) (out .length)
 
 unfoldable pub eatOf : Vector → Vector → Float
-unfolding dotOf clampOf maxOf sqrtOf
 eatOf inc out = sqrtOf binary32 (maxOf ((1f ⊖ clampOf (dotOf inc out) (neg 1f) 1f) ⊗ half) 0f)
 
 -- whether it is so sharp that the inner vertex is pinched; how far that one may lie from the point; whether it is the left one
 unfoldable pub pinches : Leg → Leg → Bool
-unfolding eatOf shorterOf lt
 pinches inc out = lt tiny (eatOf (inc .way) (out .way)) && lt micro (shorterOf inc out)
 
 unfoldable pub innerOf : Leg → Leg → Float → Float
-unfolding eatOf shorterOf minOf
 innerOf inc out h = minOf h (most ⊗ shorterOf inc out ⊘ eatOf (inc .way) (out .way))
 
 unfoldable pub turnsLeft : Vector → Vector → Vector → Bool
-unfolding dotOf vectorSub lt
 turnsLeft inc out left = lt 0f (dotOf (vectorSub out inc) left)
 
 -- how far the left and the right vertex lie from the point, where half the width is h; the ends are no corners
 unfoldable pub spreadOf : Bool → Leg → Leg → Vector → Float → Spread
-unfolding pinches innerOf turnsLeft
 spreadOf corner inc out left h =
     cond (corner && pinches inc out)
     (cond (turnsLeft (inc .way) (out .way) left) (record { left = innerOf inc out h; right = h }) (record { left = h; right = innerOf inc out h }))
@@ -196,7 +175,6 @@ spreadOf corner inc out left h =
 
 -- rib i over the kept points ks: the left and the right vertex, and the normal of both
 unfoldable pub ribAt : Lane → List ℕ → ℕ → Rib
-unfolding keptPoint legIn legOut alongOf lateralOf leftNormalOf halfOf spreadOf slopeOf pointAdd pointSubVector vectorMul crossOf normalizeOr upVector
 ribAt l ks i =
     let n : ℕ = length ks in
     let k : ℕ = getD ks i 0 in
@@ -216,7 +194,6 @@ ribAt l ks i =
 
 -- the rib with the leg out of its point
 unfoldable pub walkAt : Lane → List ℕ → ℕ → Walk
-unfolding ribAt legOut
 walkAt l ks i = record { rib = ribAt l ks i; out = legOut (l .points) ks i }
 
 -- ---- the strip, over the kept points ks
@@ -229,7 +206,6 @@ upsOf a = a .x ∷ a .y ∷ a .z ∷ a .x ∷ a .y ∷ a .z ∷ []
 
 -- whether a triangle has less area than 1e-6, in twice its square metres
 unfoldable pub noArea : Point → Point → Point → Bool
-unfolding pointSub crossOf lengthOf lt
 noArea a b c = lt (lengthOf (crossOf (pointSub b a) (pointSub c a))) micro
 
 -- a triangle, unless it has no area
@@ -238,7 +214,6 @@ triangleOf flat a b c = cond flat [] (a ∷ b ∷ c ∷ [])
 
 -- the two triangles between two ribs, where v is the number of the first one's left vertex
 unfoldable pub segmentOf : ℕ → Rib → Rib → List ℕ
-unfolding triangleOf noArea
 segmentOf v a b =
     triangleOf (noArea (a .left) (a .right) (b .right)) v (v + 1) (v + 3)
     ++ triangleOf (noArea (a .left) (b .right) (b .left)) v (v + 3) (v + 2)
@@ -255,13 +230,10 @@ indicesAt v l ks i = segmentOf (v + 2 * i) (ribAt l ks i) (ribAt l ks (i + 1))
 
 -- all of them
 unfoldable pub verticesOf : Lane → List ℕ → List Float
-unfolding gather sixOf ribAt
 verticesOf l ks = gather (verticesAt l ks) (length ks)
 
 unfoldable pub normalsOf : Lane → List ℕ → List Float
-unfolding gather upsOf ribAt
 normalsOf l ks = gather (normalsAt l ks) (length ks)
 
 unfoldable pub indicesOf : ℕ → Lane → List ℕ → List ℕ
-unfolding gather segmentOf ribAt
 indicesOf v l ks = gather (indicesAt v l ks) (length ks - 1)

@@ -36,11 +36,9 @@ lanesOf g = length (g .lanes) / 10
 
 -- lane k's run of a list whose elements are of u numbers; the run's start is word a
 unfoldable pub laneRun : ℕ → List Float → List ℕ → ℕ → ℕ → List Float
-unfolding runOf wordOf
 laneRun u xs ls a k = runOf u xs (startOf 10 a ls k) (endOf 10 a ls k)
 
 unfoldable pub laneAt : Given → ℕ → Lane
-unfolding laneRun wordOf
 laneAt g k =
     laneOf (laneRun 3 (g .points) (g .lanes) 1 k) (laneRun 3 (g .tangents) (g .lanes) 3 k) (laneRun 1 (g .widths) (g .lanes) 5 k)
     (laneRun 2 (g .banks) (g .lanes) 7 k) (single (wordOf 10 (g .lanes) k 9))
@@ -48,7 +46,6 @@ laneAt g k =
 -- ---- the refusals of the input
 
 unfoldable pub inputFault : Given → Fault
-unfolding refuse any runLong longer uneven runBad
 inputFault g =
     let n : ℕ = lanesOf g in
     refuse (any (runLong 10 1 (g .lanes) 4096) n) 1 4096
@@ -68,11 +65,9 @@ inputFault g =
 -- ---- the mesh: the strips of the lanes, one after another
 
 unfoldable pub laneVertices : Given → ℕ → List Float
-unfolding laneAt kept verticesOf
 laneVertices g k = verticesOf (laneAt g k) (kept (laneAt g k))
 
 unfoldable pub laneNormals : Given → ℕ → List Float
-unfolding laneAt kept normalsOf
 laneNormals g k = normalsOf (laneAt g k) (kept (laneAt g k))
 
 -- the number of lane k's first vertex, and of its first index
@@ -80,7 +75,6 @@ abbrev pub baseOf : Given → ℕ → ℕ
 baseOf g k = length (gather (laneVertices g) k) / 3
 
 unfoldable pub laneIndices : Given → ℕ → List ℕ
-unfolding laneAt kept indicesOf gather laneVertices
 laneIndices g k = indicesOf (baseOf g k) (laneAt g k) (kept (laneAt g k))
 
 abbrev pub indexOf : Given → ℕ → ℕ
@@ -92,11 +86,9 @@ spanOf zero id v v′ i i′ = []
 spanOf (suc ribs) id v v′ i i′ = id ∷ v ∷ v′ ∷ i ∷ i′ ∷ []
 
 unfoldable pub laneSpan : Given → ℕ → List ℕ
-unfolding laneAt kept wordOf gather laneVertices laneIndices spanOf
 laneSpan g k = spanOf (length (kept (laneAt g k))) (wordOf 10 (g .lanes) k 0) (baseOf g k) (baseOf g (k + 1)) (indexOf g k) (indexOf g (k + 1))
 
 unfoldable pub meshOf : Given → Mesh
-unfolding gather laneVertices laneNormals laneIndices laneSpan
 meshOf g =
     let n : ℕ = lanesOf g in
     record {
@@ -111,7 +103,6 @@ meshOf g =
 -- the refusals of a result with v numbers in its vertices and as many in its normals, i indices and s words of spans, where the lent
 -- slices have the lengths v′, n′, i′ and s′
 unfoldable pub resultFault : ℕ → ℕ → ℕ → ℕ → ℕ → ℕ → ℕ → Fault
-unfolding refuse
 resultFault v i s v′ n′ i′ s′ =
     refuse (ltb (3 * 65536) v) 1 65536
     (refuse (ltb 196608 i) 1 196608
@@ -127,20 +118,17 @@ countsOf v i s = record { vertices = v / 3; normals = v / 3; indices = i; spans 
 
 -- the paper's values of each case
 unfoldable pub readMesh : MeshAnswer → Answer MeshCounts
-unfolding numberOf placeOf
 readMesh (Made counts) = taken counts
 readMesh (Refused r) = refused (numberOf r) (placeOf r)
 
 -- the answer to a call whose lent slices have the lengths v, n, i and s: after the input's check, and whole
 unfoldable pub resultOf : Given → ℕ → ℕ → ℕ → ℕ → Answer MeshCounts
-unfolding meshOf resultFault countsOf judge
 resultOf g v n i s =
     let m : Mesh = meshOf g in
     judge (resultFault (length (m .vertices)) (length (m .indices)) (length (m .spans)) v n i s)
     (taken (countsOf (length (m .vertices)) (length (m .indices)) (length (m .spans))))
 
 unfoldable pub answerOf : Given → ℕ → ℕ → ℕ → ℕ → Answer MeshCounts
-unfolding inputFault judge resultOf
 answerOf g v n i s = judge (inputFault g) (resultOf g v n i s)
 
 -- a call that returns r: the answer is a, and each lent slice is as that leaves it

@@ -9,6 +9,7 @@ ghost use lib.ListN.{length, getD};
 ghost use lib.Seq.{sets};
 ghost use Rattle.rounding.specs.Thresholds.{micro};
 ghost use Rattle.vector.specs.Single.{single};
+ghost use Rattle.vector.specs.Coords.{vectorAdd, normalizeOrZero};
 ghost use Rattle.shape.specs.Gather.{any};
 ghost use Rattle.shape.specs.Memory.{Put};
 ghost use Rattle.shape.specs.Refusal.{found, fine};
@@ -235,6 +236,13 @@ fn leg_out(points: &[f32], ks: &[u32], i: usize) -> Leg
     no_leg()
 }
 
+// Between the ways of the two legs.
+fn between(inc: Vector, out: Vector) -> Vector
+    ensures { λ r. ⌜ r ≡ normalizeOrZero (vectorAdd inc out) ⌝ }
+{
+    inc.add(out).normalize_or_zero()
+}
+
 // Along the lane. The way between the legs is worked out only where the tangent has no direction.
 fn along(tangents: &[f32], k: usize, inc: Vector, out: Vector) -> Vector
     requires { ⌜ k < 2 ^ 32 ⌝ }
@@ -246,8 +254,9 @@ fn along(tangents: &[f32], k: usize, inc: Vector, out: Vector) -> Vector
         if len > 0.0 {
             return t.mul(1.0 / len);
         }
+        return between(inc, out);
     }
-    inc.add(out).normalize_or_zero()
+    between(inc, out)
 }
 
 // Rise over run.
@@ -532,25 +541,23 @@ fn put_ribs(
 ) -> At
     requires { ⌜ (0 < length (now ks)) × (at .floats + 6 * length (now ks) ≤ length (now vertices)) × (at .floats + 6 * length (now ks) ≤ length (now normals)) × (at .floats / 3 + 2 * length (now ks) < 4294967290) ⌝ }
     requires { ⌜ at .index + length (indicesOf (at .floats / 3) (laneOf (now points) (now tangents) (now widths) (now banks) width) (now ks)) ≤ length (now indices) ⌝ }
-    ensures { λ r. ⌜ Put (now (vertices .entry)) (now (vertices .exit)) (at .floats) (verticesOf (laneOf (now (points .entry)) (now (tangents .entry)) (now (widths .entry)) (now (banks .entry)) width) (now (ks .entry))) (r .floats) ⌝ }
-    ensures { λ r. ⌜ Put (now (normals .entry)) (now (normals .exit)) (at .floats) (normalsOf (laneOf (now (points .entry)) (now (tangents .entry)) (now (widths .entry)) (now (banks .entry)) width) (now (ks .entry))) (r .floats) ⌝ }
-    ensures { λ r. ⌜ Put (now (indices .entry)) (now (indices .exit)) (at .index) (indicesOf (at .floats / 3) (laneOf (now (points .entry)) (now (tangents .entry)) (now (widths .entry)) (now (banks .entry)) width) (now (ks .entry))) (r .index) ⌝ }
+    ensures { λ r. ⌜ (Put (now (vertices .entry)) (now (vertices .exit)) (at .floats) (verticesOf (laneOf (now (points .entry)) (now (tangents .entry)) (now (widths .entry)) (now (banks .entry)) width) (now (ks .entry))) (r .floats)) × (Put (now (normals .entry)) (now (normals .exit)) (at .floats) (normalsOf (laneOf (now (points .entry)) (now (tangents .entry)) (now (widths .entry)) (now (banks .entry)) width) (now (ks .entry))) (r .floats)) × (Put (now (indices .entry)) (now (indices .exit)) (at .index) (indicesOf (at .floats / 3) (laneOf (now (points .entry)) (now (tangents .entry)) (now (widths .entry)) (now (banks .entry)) width) (now (ks .entry))) (r .index)) ⌝ }
 {
     let v = at.floats / 3;
     let mut w = walk_at(points, tangents, widths, banks, width, ks, 0, no_leg());
-    let mut q = put_rib(vertices, normals, at.floats, w.rib);
+    let mut q = at.floats;
     let mut j = at.index;
     let mut i: usize = 0;
     while i + 1 < ks.len() {
         let inc = w.out;
         let next = walk_at(points, tangents, widths, banks, width, ks, i + 1, inc);
-        q = put_rib(vertices, normals, q, next.rib);
+        q = put_rib(vertices, normals, q, w.rib);
         j = put_segment(indices, j, v + 2 * i, w.rib, next.rib);
         w = next;
         i += 1;
     }
     At {
-        floats: q,
+        floats: put_rib(vertices, normals, q, w.rib),
         index: j,
         word: at.word,
     }

@@ -1,102 +1,95 @@
+-- `shape::mesh::input_fault` meets its contract: each return follows from the tests that led to it. Assumes nothing.
+use mathlib.Core.Path.{sym, _∙_}
+use borrow.Author.Tests.{lt-ltb, le-ltb, eq-eqb, ne-eqb}
+use Rattle.shape.specs.Refusal.{found, numberOf, placeOf, refuse}
+use Rattle.shape.specs.Lists.{longer, uneven}
+use Rattle.shape.specs.SurfaceMesh.{inputFault}
 use borrow.Author.Needs.{needs}
 use Rattle.shape.proofs.mesh.input_fault.Statement.{statement}
 use Rattle.shape.proofs.mesh.input_fault.Tie as tie
-use Rattle.shape.proofs.mesh.input_fault.Reads as reads
-use Rattle.shape.proofs.mesh.input_fault.Lts as lts
-use Rattle.shape.proofs.lists.any_bad.Reads as any-bad-reads
-use Rattle.shape.proofs.lists.any_long.Reads as any-long-reads
 
--- src/mesh.rt:791:8
 any-long-requires : tie.Need-any-long-requires
 any-long-requires c κs = search needs
 
--- src/mesh.rt:792:9
 returns : tie.Need-returns
-returns c = ?
+unfolding inputFault refuse longer uneven found numberOf placeOf
+returns c = simp ((sym (c .before .any-long .ensures) ∙ c .if1 .taken))
 
--- src/mesh.rt:794:8
 any-long-requires-2 : tie.Need-any-long-requires-2
 any-long-requires-2 c κs = search needs
 
--- src/mesh.rt:795:9
 returns-2 : tie.Need-returns-2
-returns-2 c = ?
+unfolding inputFault refuse longer uneven found numberOf placeOf
+returns-2 c = simp ((sym (c .before .before .before .any-long .ensures) ∙ c .before .before .if1 .left), (sym (c .before .any-long2 .ensures) ∙ c .if2 .taken))
 
--- src/mesh.rt:797:8
 any-long-requires-3 : tie.Need-any-long-requires-3
 any-long-requires-3 c κs = search needs
 
--- src/mesh.rt:798:9
 returns-3 : tie.Need-returns-3
-returns-3 c = ?
+unfolding inputFault refuse longer uneven found numberOf placeOf
+returns-3 c = simp ((sym (c .before .before .before .before .before .any-long .ensures) ∙ c .before .before .before .before .if1 .left), (sym (c .before .before .before .any-long2 .ensures) ∙ c .before .before .if2 .left), (sym (c .before .any-long3 .ensures) ∙ c .if3 .taken))
 
--- src/mesh.rt:800:8
 any-long-requires-4 : tie.Need-any-long-requires-4
 any-long-requires-4 c κs = search needs
 
--- src/mesh.rt:801:9
 returns-4 : tie.Need-returns-4
-returns-4 c = ?
+unfolding inputFault refuse longer uneven found numberOf placeOf
+returns-4 c = simp ((sym (c .before .before .before .before .before .before .before .any-long .ensures) ∙ c .before .before .before .before .before .before .if1 .left), (sym (c .before .before .before .before .before .any-long2 .ensures) ∙ c .before .before .before .before .if2 .left), (sym (c .before .before .before .any-long3 .ensures) ∙ c .before .before .if3 .left), (sym (c .before .any-long4 .ensures) ∙ c .if4 .taken))
 
--- src/mesh.rt:803:8
 mul-if5 : tie.Need-mul-if5
 mul-if5 c = search needs
 
--- src/mesh.rt:804:9
 returns-5 : tie.Need-returns-5
-returns-5 c = ?
+unfolding inputFault refuse longer uneven found numberOf placeOf
+returns-5 c = simp ((sym (c .before .before .before .before .before .before .before .before .any-long .ensures) ∙ c .before .before .before .before .before .before .before .if1 .left), (sym (c .before .before .before .before .before .before .any-long2 .ensures) ∙ c .before .before .before .before .before .if2 .left), (sym (c .before .before .before .before .any-long3 .ensures) ∙ c .before .before .before .if3 .left), (sym (c .before .before .any-long4 .ensures) ∙ c .before .if4 .left), lt-ltb _ _ (c .if5 .taken))
 
--- src/mesh.rt:807:9
 returns-6 : tie.Need-returns-6
-returns-6 c = ?
+unfolding inputFault refuse longer uneven found numberOf placeOf
+returns-6 c = simp ((sym (c .before .before .before .before .before .before .before .before .before .any-long .ensures) ∙ c .before .before .before .before .before .before .before .before .if1 .left), (sym (c .before .before .before .before .before .before .before .any-long2 .ensures) ∙ c .before .before .before .before .before .before .if2 .left), (sym (c .before .before .before .before .before .any-long3 .ensures) ∙ c .before .before .before .before .if3 .left), (sym (c .before .before .before .any-long4 .ensures) ∙ c .before .before .if4 .left), le-ltb _ _ (c .before .if5 .left), ne-eqb _ _ (c .if6 .taken))
 
--- src/mesh.rt:810:9
 returns-7 : tie.Need-returns-7
-returns-7 c = ?
+unfolding inputFault refuse longer uneven found numberOf placeOf
+returns-7 c = simp ((sym (c .before .before .before .before .before .before .before .before .before .before .any-long .ensures) ∙ c .before .before .before .before .before .before .before .before .before .if1 .left), (sym (c .before .before .before .before .before .before .before .before .any-long2 .ensures) ∙ c .before .before .before .before .before .before .before .if2 .left), (sym (c .before .before .before .before .before .before .any-long3 .ensures) ∙ c .before .before .before .before .before .if3 .left), (sym (c .before .before .before .before .any-long4 .ensures) ∙ c .before .before .before .if4 .left), le-ltb _ _ (c .before .before .if5 .left), eq-eqb _ _ (c .before .if6 .left), ne-eqb _ _ (c .if7 .taken))
 
--- src/mesh.rt:813:9
 returns-8 : tie.Need-returns-8
-returns-8 c = ?
+unfolding inputFault refuse longer uneven found numberOf placeOf
+returns-8 c = simp ((sym (c .before .before .before .before .before .before .before .before .before .before .before .any-long .ensures) ∙ c .before .before .before .before .before .before .before .before .before .before .if1 .left), (sym (c .before .before .before .before .before .before .before .before .before .any-long2 .ensures) ∙ c .before .before .before .before .before .before .before .before .if2 .left), (sym (c .before .before .before .before .before .before .before .any-long3 .ensures) ∙ c .before .before .before .before .before .before .if3 .left), (sym (c .before .before .before .before .before .any-long4 .ensures) ∙ c .before .before .before .before .if4 .left), le-ltb _ _ (c .before .before .before .if5 .left), eq-eqb _ _ (c .before .before .if6 .left), eq-eqb _ _ (c .before .if7 .left), ne-eqb _ _ (c .if8 .taken))
 
--- src/mesh.rt:816:9
 returns-9 : tie.Need-returns-9
-returns-9 c = ?
+unfolding inputFault refuse longer uneven found numberOf placeOf
+returns-9 c = simp ((sym (c .before .before .before .before .before .before .before .before .before .before .before .before .any-long .ensures) ∙ c .before .before .before .before .before .before .before .before .before .before .before .if1 .left), (sym (c .before .before .before .before .before .before .before .before .before .before .any-long2 .ensures) ∙ c .before .before .before .before .before .before .before .before .before .if2 .left), (sym (c .before .before .before .before .before .before .before .before .any-long3 .ensures) ∙ c .before .before .before .before .before .before .before .if3 .left), (sym (c .before .before .before .before .before .before .any-long4 .ensures) ∙ c .before .before .before .before .before .if4 .left), le-ltb _ _ (c .before .before .before .before .if5 .left), eq-eqb _ _ (c .before .before .before .if6 .left), eq-eqb _ _ (c .before .before .if7 .left), eq-eqb _ _ (c .before .if8 .left), ne-eqb _ _ (c .if9 .taken))
 
--- src/mesh.rt:818:8
 any-bad-requires : tie.Need-any-bad-requires
 any-bad-requires c κs = search needs
 
--- src/mesh.rt:819:9
 returns-10 : tie.Need-returns-10
-returns-10 c = ?
+unfolding inputFault refuse longer uneven found numberOf placeOf
+returns-10 c = simp ((sym (c .before .before .before .before .before .before .before .before .before .before .before .before .before .before .any-long .ensures) ∙ c .before .before .before .before .before .before .before .before .before .before .before .before .before .if1 .left), (sym (c .before .before .before .before .before .before .before .before .before .before .before .before .any-long2 .ensures) ∙ c .before .before .before .before .before .before .before .before .before .before .before .if2 .left), (sym (c .before .before .before .before .before .before .before .before .before .before .any-long3 .ensures) ∙ c .before .before .before .before .before .before .before .before .before .if3 .left), (sym (c .before .before .before .before .before .before .before .before .any-long4 .ensures) ∙ c .before .before .before .before .before .before .before .if4 .left), le-ltb _ _ (c .before .before .before .before .before .before .if5 .left), eq-eqb _ _ (c .before .before .before .before .before .if6 .left), eq-eqb _ _ (c .before .before .before .before .if7 .left), eq-eqb _ _ (c .before .before .before .if8 .left), eq-eqb _ _ (c .before .before .if9 .left), (sym (c .before .any-bad .ensures) ∙ c .if10 .taken))
 
--- src/mesh.rt:821:8
 any-bad-requires-2 : tie.Need-any-bad-requires-2
 any-bad-requires-2 c κs = search needs
 
--- src/mesh.rt:822:9
 returns-11 : tie.Need-returns-11
-returns-11 c = ?
+unfolding inputFault refuse longer uneven found numberOf placeOf
+returns-11 c = simp ((sym (c .before .before .before .before .before .before .before .before .before .before .before .before .before .before .before .before .any-long .ensures) ∙ c .before .before .before .before .before .before .before .before .before .before .before .before .before .before .before .if1 .left), (sym (c .before .before .before .before .before .before .before .before .before .before .before .before .before .before .any-long2 .ensures) ∙ c .before .before .before .before .before .before .before .before .before .before .before .before .before .if2 .left), (sym (c .before .before .before .before .before .before .before .before .before .before .before .before .any-long3 .ensures) ∙ c .before .before .before .before .before .before .before .before .before .before .before .if3 .left), (sym (c .before .before .before .before .before .before .before .before .before .before .any-long4 .ensures) ∙ c .before .before .before .before .before .before .before .before .before .if4 .left), le-ltb _ _ (c .before .before .before .before .before .before .before .before .if5 .left), eq-eqb _ _ (c .before .before .before .before .before .before .before .if6 .left), eq-eqb _ _ (c .before .before .before .before .before .before .if7 .left), eq-eqb _ _ (c .before .before .before .before .before .if8 .left), eq-eqb _ _ (c .before .before .before .before .if9 .left), (sym (c .before .before .before .any-bad .ensures) ∙ c .before .before .if10 .left), (sym (c .before .any-bad2 .ensures) ∙ c .if11 .taken))
 
--- src/mesh.rt:824:8
 any-bad-requires-3 : tie.Need-any-bad-requires-3
 any-bad-requires-3 c κs = search needs
 
--- src/mesh.rt:825:9
 returns-12 : tie.Need-returns-12
-returns-12 c = ?
+unfolding inputFault refuse longer uneven found numberOf placeOf
+returns-12 c = simp ((sym (c .before .before .before .before .before .before .before .before .before .before .before .before .before .before .before .before .before .before .any-long .ensures) ∙ c .before .before .before .before .before .before .before .before .before .before .before .before .before .before .before .before .before .if1 .left), (sym (c .before .before .before .before .before .before .before .before .before .before .before .before .before .before .before .before .any-long2 .ensures) ∙ c .before .before .before .before .before .before .before .before .before .before .before .before .before .before .before .if2 .left), (sym (c .before .before .before .before .before .before .before .before .before .before .before .before .before .before .any-long3 .ensures) ∙ c .before .before .before .before .before .before .before .before .before .before .before .before .before .if3 .left), (sym (c .before .before .before .before .before .before .before .before .before .before .before .before .any-long4 .ensures) ∙ c .before .before .before .before .before .before .before .before .before .before .before .if4 .left), le-ltb _ _ (c .before .before .before .before .before .before .before .before .before .before .if5 .left), eq-eqb _ _ (c .before .before .before .before .before .before .before .before .before .if6 .left), eq-eqb _ _ (c .before .before .before .before .before .before .before .before .if7 .left), eq-eqb _ _ (c .before .before .before .before .before .before .before .if8 .left), eq-eqb _ _ (c .before .before .before .before .before .before .if9 .left), (sym (c .before .before .before .before .before .any-bad .ensures) ∙ c .before .before .before .before .if10 .left), (sym (c .before .before .before .any-bad2 .ensures) ∙ c .before .before .if11 .left), (sym (c .before .any-bad3 .ensures) ∙ c .if12 .taken))
 
--- src/mesh.rt:827:8
 any-bad-requires-4 : tie.Need-any-bad-requires-4
 any-bad-requires-4 c κs = search needs
 
--- src/mesh.rt:828:9
 returns-13 : tie.Need-returns-13
-returns-13 c = ?
+unfolding inputFault refuse longer uneven found numberOf placeOf
+returns-13 c = simp ((sym (c .before .before .before .before .before .before .before .before .before .before .before .before .before .before .before .before .before .before .before .before .any-long .ensures) ∙ c .before .before .before .before .before .before .before .before .before .before .before .before .before .before .before .before .before .before .before .if1 .left), (sym (c .before .before .before .before .before .before .before .before .before .before .before .before .before .before .before .before .before .before .any-long2 .ensures) ∙ c .before .before .before .before .before .before .before .before .before .before .before .before .before .before .before .before .before .if2 .left), (sym (c .before .before .before .before .before .before .before .before .before .before .before .before .before .before .before .before .any-long3 .ensures) ∙ c .before .before .before .before .before .before .before .before .before .before .before .before .before .before .before .if3 .left), (sym (c .before .before .before .before .before .before .before .before .before .before .before .before .before .before .any-long4 .ensures) ∙ c .before .before .before .before .before .before .before .before .before .before .before .before .before .if4 .left), le-ltb _ _ (c .before .before .before .before .before .before .before .before .before .before .before .before .if5 .left), eq-eqb _ _ (c .before .before .before .before .before .before .before .before .before .before .before .if6 .left), eq-eqb _ _ (c .before .before .before .before .before .before .before .before .before .before .if7 .left), eq-eqb _ _ (c .before .before .before .before .before .before .before .before .before .if8 .left), eq-eqb _ _ (c .before .before .before .before .before .before .before .before .if9 .left), (sym (c .before .before .before .before .before .before .before .any-bad .ensures) ∙ c .before .before .before .before .before .before .if10 .left), (sym (c .before .before .before .before .before .any-bad2 .ensures) ∙ c .before .before .before .before .if11 .left), (sym (c .before .before .before .any-bad3 .ensures) ∙ c .before .before .if12 .left), (sym (c .before .any-bad4 .ensures) ∙ c .if13 .taken))
 
--- src/mesh.rt:781:1
 returns-14 : tie.Need-returns-14
-returns-14 c = ?
+unfolding inputFault refuse longer uneven found numberOf placeOf
+returns-14 c = simp ((sym (c .before .before .before .before .before .before .before .before .before .before .before .before .before .before .before .before .before .before .before .before .any-long .ensures) ∙ c .before .before .before .before .before .before .before .before .before .before .before .before .before .before .before .before .before .before .before .if1 .left), (sym (c .before .before .before .before .before .before .before .before .before .before .before .before .before .before .before .before .before .before .any-long2 .ensures) ∙ c .before .before .before .before .before .before .before .before .before .before .before .before .before .before .before .before .before .if2 .left), (sym (c .before .before .before .before .before .before .before .before .before .before .before .before .before .before .before .before .any-long3 .ensures) ∙ c .before .before .before .before .before .before .before .before .before .before .before .before .before .before .before .if3 .left), (sym (c .before .before .before .before .before .before .before .before .before .before .before .before .before .before .any-long4 .ensures) ∙ c .before .before .before .before .before .before .before .before .before .before .before .before .before .if4 .left), le-ltb _ _ (c .before .before .before .before .before .before .before .before .before .before .before .before .if5 .left), eq-eqb _ _ (c .before .before .before .before .before .before .before .before .before .before .before .if6 .left), eq-eqb _ _ (c .before .before .before .before .before .before .before .before .before .before .if7 .left), eq-eqb _ _ (c .before .before .before .before .before .before .before .before .before .if8 .left), eq-eqb _ _ (c .before .before .before .before .before .before .before .before .if9 .left), (sym (c .before .before .before .before .before .before .before .any-bad .ensures) ∙ c .before .before .before .before .before .before .if10 .left), (sym (c .before .before .before .before .before .any-bad2 .ensures) ∙ c .before .before .before .before .if11 .left), (sym (c .before .before .before .any-bad3 .ensures) ∙ c .before .before .if12 .left), (sym (c .before .any-bad4 .ensures) ∙ c .if13 .left))
 
 pub input-fault-spec : {M : Type 1} → statement M
 input-fault-spec =

@@ -1,88 +1,73 @@
+-- `shape::mesh::put_six` meets its contract. Assumes nothing.
+use mathlib.Core.Path.{refl}
+use native.Mathlib.Numerals.{towards-suc}
+use native.Mathlib.Omega.{arith}
+use lib.ListN.{length-set}
+use Rattle.shape.specs.Strip.{sixOf}
 use borrow.Author.Needs.{needs}
 use Rattle.shape.proofs.mesh.put_six.Statement.{statement}
 use Rattle.shape.proofs.mesh.put_six.Tie as tie
-use Rattle.shape.proofs.mesh.put_six.Reads as reads
-use Rattle.shape.proofs.mesh.put_six.Lts as lts
 
--- src/mesh.rt:416:5
 mul-out : tie.Need-mul-out
 mul-out c = search needs
 
--- src/mesh.rt:416:5
 slice-write-out : tie.Need-slice-write-out
 slice-write-out c = search needs
 
--- src/mesh.rt:417:9
 add-out : tie.Need-add-out
 add-out c = search needs
 
--- src/mesh.rt:417:5
 mul-out-2 : tie.Need-mul-out-2
 mul-out-2 c = search needs
 
--- src/mesh.rt:417:5
 slice-write-out-2 : tie.Need-slice-write-out-2
-slice-write-out-2 c = ?
+slice-write-out-2 c = simp length-set (omega arith)
 
--- src/mesh.rt:418:9
 add-out-2 : tie.Need-add-out-2
 add-out-2 c = search needs
 
--- src/mesh.rt:418:5
 mul-out-3 : tie.Need-mul-out-3
 mul-out-3 c = search needs
 
--- src/mesh.rt:418:5
 slice-write-out-3 : tie.Need-slice-write-out-3
-slice-write-out-3 c = ?
+slice-write-out-3 c = simp length-set (omega arith)
 
--- src/mesh.rt:419:9
 add-out-3 : tie.Need-add-out-3
 add-out-3 c = search needs
 
--- src/mesh.rt:419:5
 mul-out-4 : tie.Need-mul-out-4
 mul-out-4 c = search needs
 
--- src/mesh.rt:419:5
 slice-write-out-4 : tie.Need-slice-write-out-4
-slice-write-out-4 c = ?
+slice-write-out-4 c = simp length-set (omega arith)
 
--- src/mesh.rt:420:9
 add-out-4 : tie.Need-add-out-4
 add-out-4 c = search needs
 
--- src/mesh.rt:420:5
 mul-out-5 : tie.Need-mul-out-5
 mul-out-5 c = search needs
 
--- src/mesh.rt:420:5
 slice-write-out-5 : tie.Need-slice-write-out-5
-slice-write-out-5 c = ?
+slice-write-out-5 c = simp length-set (omega arith)
 
--- src/mesh.rt:421:9
 add-out-5 : tie.Need-add-out-5
 add-out-5 c = search needs
 
--- src/mesh.rt:421:5
 mul-out-6 : tie.Need-mul-out-6
 mul-out-6 c = search needs
 
--- src/mesh.rt:421:5
 slice-write-out-6 : tie.Need-slice-write-out-6
-slice-write-out-6 c = ?
+slice-write-out-6 c = simp length-set (omega arith)
 
--- src/mesh.rt:422:5
 add-result : tie.Need-add-result
 add-result c = search needs
 
--- src/mesh.rt:412:1
 same-length : tie.Need-same-length
 same-length c = search needs
 
--- src/mesh.rt:412:1
 returns : tie.Need-returns
-returns c = ?
+unfolding sixOf
+returns c = record { memory = simp towards-suc; ends = refl }
 
 pub put-six-spec : {M : Type 1} → statement M
 put-six-spec =

@@ -1,45 +1,48 @@
+-- `shape::mesh::put_triangle` meets its contract. Assumes nothing.
+use mathlib.Core.Path.{_≡_, refl, sym}
+use mathlib.Core.Bool.{Bool, false}
+use Prim.Native.Nat.{ℕ, _+_, _≤_}
+use native.Mathlib.Nat.{add-zero}
+use native.Mathlib.Numerals.{towards-suc}
+use native.Mathlib.Omega.{arith}
+use lib.ListN.{length}
+use Rattle.shape.specs.Strip.{triangleOf}
 use borrow.Author.Needs.{needs}
 use Rattle.shape.proofs.mesh.put_triangle.Statement.{statement}
 use Rattle.shape.proofs.mesh.put_triangle.Tie as tie
-use Rattle.shape.proofs.mesh.put_triangle.Reads as reads
-use Rattle.shape.proofs.mesh.put_triangle.Lts as lts
-use Rattle.shape.proofs.mesh.put_word.Reads as put-word-reads
 
--- src/mesh.rt:455:9
+room : (flat : Bool) (a b c at n : ℕ) → flat ≡ false → at + length (triangleOf flat a b c) ≤ n → at + 3 ≤ n
+unfolding triangleOf
+room flat a b c at n e h = rw e at h
+
 returns : tie.Need-returns
-returns c = ?
+unfolding triangleOf
+returns c = rw (c .if1 .taken) (record { memory = refl; ends = sym (add-zero (c .before .before .args .at)) })
 
--- src/mesh.rt:457:5
 put-word-requires : tie.Need-put-word-requires
-put-word-requires c κs = ?
+put-word-requires c κs = let h = room _ _ _ _ _ _ (c .before .if1 .left) (c .before .before .before .pre .0) in omega arith
 
--- src/mesh.rt:458:19
 add-put-word : tie.Need-add-put-word
 add-put-word c = search needs
 
--- src/mesh.rt:458:5
 put-word-requires-2 : tie.Need-put-word-requires-2
-put-word-requires-2 c κs = ?
+put-word-requires-2 c κs = let h = room _ _ _ _ _ _ (c .before .before .before .before .before .if1 .left) (c .before .before .before .before .before .before .before .pre .0) in omega arith
 
--- src/mesh.rt:459:19
 add-put-word-2 : tie.Need-add-put-word-2
 add-put-word-2 c = search needs
 
--- src/mesh.rt:459:5
 put-word-requires-3 : tie.Need-put-word-requires-3
-put-word-requires-3 c κs = ?
+put-word-requires-3 c κs = let h = room _ _ _ _ _ _ (c .before .before .before .before .before .before .before .before .before .if1 .left) (c .before .before .before .before .before .before .before .before .before .before .before .pre .0) in omega arith
 
--- src/mesh.rt:460:5
 add-result : tie.Need-add-result
 add-result c = search needs
 
--- src/mesh.rt:450:1
 same-length : tie.Need-same-length
 same-length c = search needs
 
--- src/mesh.rt:450:1
 returns-2 : tie.Need-returns-2
-returns-2 c = ?
+unfolding triangleOf
+returns-2 c = rw (c .before .before .before .before .before .before .before .before .before .before .before .before .if1 .left) (record { memory = rw (c .before .before .put-word3 .ensures, c .before .before .before .before .before .before .put-word2 .ensures, c .before .before .before .before .before .before .before .before .before .before .put-word .ensures) (simp towards-suc); ends = refl })
 
 pub put-triangle-spec : {M : Type 1} → statement M
 put-triangle-spec =

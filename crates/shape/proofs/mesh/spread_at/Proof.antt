@@ -1,47 +1,51 @@
+-- `shape::mesh::spread_at` meets its contract. Assumes nothing.
+use mathlib.Core.Path.{_≡_, refl, sym, ap, _∙_}
+use mathlib.Core.Bool.{Bool, true, false, not}
+use lib.Ieee.{ofBits}
+use Rattle.shape.specs.Strip.{spreadOf, pinches, innerOf, shorterOf}
 use borrow.Author.Needs.{needs}
 use Rattle.shape.proofs.mesh.spread_at.Statement.{statement}
 use Rattle.shape.proofs.mesh.spread_at.Tie as tie
-use Rattle.shape.proofs.mesh.spread_at.Reads as reads
-use Rattle.shape.proofs.mesh.spread_at.Lts as lts
-use Rattle.rounding.proofs.extremes.min32.Reads as min32-reads
-use Rattle.shape.proofs.mesh.eat.Reads as eat-reads
-use Rattle.shape.proofs.mesh.turns_left.Reads as turns-left-reads
 
--- src/mesh.rt:322:9
+not-so : (b : Bool) → not b ≡ true → b ≡ false
+not-so true h = sym h
+not-so false h = refl
+
+so : (b : Bool) → not b ≡ false → b ≡ true
+so true h = refl
+so false h = sym h
+
 returns : tie.Need-returns
-returns c = ?
+unfolding spreadOf
+returns c = rw (not-so (c .before .args .corner) (c .if1 .taken))
 
--- src/mesh.rt:326:9
 eat-requires : tie.Need-eat-requires
 eat-requires c κs = search needs
 
--- src/mesh.rt:327:9
 min32-requires : tie.Need-min32-requires
 min32-requires c κs = search needs
 
--- src/mesh.rt:330:17
 min32-requires-2 : tie.Need-min32-requires-2
 min32-requires-2 c κs = search needs
 
--- src/mesh.rt:331:16
 turns-left-requires : tie.Need-turns-left-requires
 turns-left-requires c κs = search needs
 
--- src/mesh.rt:332:17
 returns-2 : tie.Need-returns-2
-returns-2 c = ?
+unfolding spreadOf pinches innerOf shorterOf ofBits
+returns-2 c = let e = c .before .before .before .before .before .before .eat .ensures in let s = c .before .before .before .before .before .min32 .ensures in let p = rw e at (c .before .before .before .before .if2 .taken) in let q = rw s at (c .before .before .before .if3 .taken) in let t = sym (c .before .turns-left .ensures) ∙ c .if4 .taken in rw (so (c .before .before .before .before .before .before .before .before .before .before .args .corner) (c .before .before .before .before .before .before .before .before .before .if1 .left), p, q, t, c .before .before .min322 .ensures, e, s)
 
--- src/mesh.rt:337:13
 returns-3 : tie.Need-returns-3
-returns-3 c = ?
+unfolding spreadOf pinches innerOf shorterOf ofBits
+returns-3 c = let e = c .before .before .before .before .before .before .eat .ensures in let s = c .before .before .before .before .before .min32 .ensures in let p = rw e at (c .before .before .before .before .if2 .taken) in let q = rw s at (c .before .before .before .if3 .taken) in let t = sym (c .before .turns-left .ensures) ∙ c .if4 .left in rw (so (c .before .before .before .before .before .before .before .before .before .before .args .corner) (c .before .before .before .before .before .before .before .before .before .if1 .left), p, q, t, c .before .before .min322 .ensures, e, s)
 
--- src/mesh.rt:342:9
 returns-4 : tie.Need-returns-4
-returns-4 c = ?
+unfolding spreadOf pinches innerOf shorterOf ofBits
+returns-4 c = let e = c .before .before .before .eat .ensures in let s = c .before .before .min32 .ensures in let p = rw e at (c .before .if2 .taken) in let q = rw s at (c .if3 .left) in rw (so (c .before .before .before .before .before .before .before .args .corner) (c .before .before .before .before .before .before .if1 .left), p, q)
 
--- src/mesh.rt:317:1
 returns-5 : tie.Need-returns-5
-returns-5 c = ?
+unfolding spreadOf pinches innerOf shorterOf ofBits
+returns-5 c = let e = c .before .before .eat .ensures in let s = c .before .min32 .ensures in let p = rw e at (c .if2 .left) in rw (so (c .before .before .before .before .before .before .args .corner) (c .before .before .before .before .before .if1 .left), p)
 
 pub spread-at-spec : {M : Type 1} → statement M
 spread-at-spec =

@@ -1,50 +1,55 @@
+-- `shape::mesh::weld_end` meets its contract. Assumes nothing.
+use mathlib.Core.Path.{_≡_, refl}
+use mathlib.Core.Bool.{Bool}
+use mathlib.Core.List.{List, [], _∷_}
+use Prim.Native.Nat.{ℕ, zero, suc, _+_}
+use native.Mathlib.Omega.{arith}
+use lib.Seq.{sets}
+use Rattle.shape.specs.Memory.{Put}
+use Rattle.shape.specs.Strip.{lastOf}
 use borrow.Author.Needs.{needs}
 use Rattle.shape.proofs.mesh.weld_end.Statement.{statement}
 use Rattle.shape.proofs.mesh.weld_end.Tie as tie
-use Rattle.shape.proofs.mesh.weld_end.Reads as reads
-use Rattle.shape.proofs.mesh.weld_end.Lts as lts
-use Rattle.shape.proofs.mesh.ends_meet.Reads as ends-meet-reads
-use Rattle.shape.proofs.mesh.put_word.Reads as put-word-reads
 
--- src/mesh.rt:141:12
+-- where m are kept, and m is not 0
+ends : (before after : List ℕ) (m : ℕ) (near : Bool) (e : ℕ) → (m ≡ 0 → ⊥) → after ≡ sets before m (e ∷ [])
+    → Put before after m (lastOf m near e) (m + 1)
+unfolding lastOf
+ends before after zero near e h p = absurd (h refl)
+ends before after (suc m) near e h p = record { memory = p; ends = refl }
+
 ends-meet-requires : tie.Need-ends-meet-requires
 ends-meet-requires c κs = search needs
 
--- src/mesh.rt:142:13
 returns : tie.Need-returns
-returns c = ?
+unfolding lastOf
+returns c = rw (c .before .before .if1 .taken, ← (c .before .ends-meet .ensures), c .if2 .taken) (record { memory = refl; ends = refl }, omega arith)
 
--- src/mesh.rt:144:9
 put-word-requires : tie.Need-put-word-requires
 put-word-requires c κs = search needs
 
--- src/mesh.rt:145:9
 put-word-requires-2 : tie.Need-put-word-requires-2
 put-word-requires-2 c κs = search needs
 
--- src/mesh.rt:146:9
 same-length : tie.Need-same-length
 same-length c = search needs
 
--- src/mesh.rt:146:9
 returns-2 : tie.Need-returns-2
-returns-2 c = ?
+unfolding lastOf
+returns-2 c = rw (c .before .before .before .before .before .before .before .before .before .before .if1 .taken, ← (c .before .before .before .before .before .before .before .before .before .ends-meet .ensures), c .before .before .before .before .before .before .before .before .if2 .left) (record { memory = cc; ends = refl }, omega arith)
 
--- src/mesh.rt:148:5
 put-word-requires-3 : tie.Need-put-word-requires-3
 put-word-requires-3 c κs = search needs
 
--- src/mesh.rt:149:5
 add-result : tie.Need-add-result
 add-result c = search needs
 
--- src/mesh.rt:135:1
 same-length-2 : tie.Need-same-length-2
 same-length-2 c = search needs
 
--- src/mesh.rt:135:1
 returns-3 : tie.Need-returns-3
-returns-3 c = ?
+unfolding lastOf
+returns-3 c = (ends _ _ _ _ _ (c .before .before .before .before .if1 .left) (c .before .before .put-word3 .ensures), omega arith)
 
 pub weld-end-spec : {M : Type 1} → statement M
 weld-end-spec =

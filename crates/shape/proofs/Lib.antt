@@ -1,0 +1,3 @@
+-- Lemmas of the function proofs.
+pub mod Strips
+pub mod Meshing
