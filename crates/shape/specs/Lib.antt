@@ -5,4 +5,5 @@ pub mod Refusal
 pub mod Lists
 pub mod Strip
 pub mod SurfaceMesh
+pub mod CasesStrips
 pub mod Laws
