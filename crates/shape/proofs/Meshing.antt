@@ -5,21 +5,22 @@ use mathlib.Core.List.{List, [], _∷_, _++_}
 use Prim.Native.Nat.{ℕ, zero, suc, _+_, _-_, _*_, _/_, _<_, _≤_, _^_}
 use native.Mathlib.Nat.{zero-add}
 use native.Mathlib.Omega.{arith}
-use borrow.Author.Tests.{ltb-false}
+use borrow.Author.Tests.{ltb-false, le-ltb}
 use lib.Dec.{ltb}
-use lib.Ieee.{Float}
+use lib.Ieee.{Float, lt}
 use lib.ListN.{length, take, drop, length-take, length-append}
+use Rattle.rounding.specs.Thresholds.{micro}
 use Rattle.shape.specs.declared.mesh.At.{At}
 use Rattle.shape.specs.declared.mesh.MeshCounts.{MeshCounts}
 use Rattle.shape.specs.Gather.{gather, any}
 use Rattle.shape.specs.Memory.{Put}
 use Rattle.shape.specs.Refusal.{Fault, fine, fault, refuse, Answer, taken, refused, judge, leaves}
 use Rattle.shape.specs.Lists.{startOf, endOf, wordOf, runLong, runOf, longer}
-use Rattle.shape.specs.Strip.{Lane, kept, verticesOf, normalsOf, indicesOf}
-use Rattle.shape.specs.SurfaceMesh.{Given, lanesOf, laneRun, laneAt, spanOf, laneVertices, laneNormals, laneIndices, laneSpan, baseOf, indexOf, meshOf, inputFault, resultFault, countsOf, resultOf, answerOf, Grown, Sizes, Room, Wrote, Written, Fitting}
-use Rattle.shape.specs.Laws.Gather.{gather-next, gather-fits}
+use Rattle.shape.specs.Strip.{Lane, welded, weldNext, keeps, stepOf, lastOf, keptOf, kept, noArea, ribAt, triangleOf, indicesAt, verticesOf, normalsOf, indicesOf}
+use Rattle.shape.specs.SurfaceMesh.{Given, lanesOf, laneRun, laneAt, spanOf, laneVertices, laneNormals, laneIndices, laneSpan, baseOf, indexOf, meshOf, inputFault, resultFault, countsOf, resultOf, answerOf, Grown, Topped, Enough, Sizes, Room, Wrote, Written, Fitting}
+use Rattle.shape.specs.Laws.Gather.{gather-next, gather-fits, gather-most}
 use Rattle.shape.specs.Laws.Memory.{put-none, put-length, put-turn, put-front, sets-front}
-use Rattle.shape.proofs.Strips.{vertices-length}
+use Rattle.shape.proofs.Strips.{vertices-length, segment-length, cond-few}
 
 -- a run that is not too long
 pub run-short : (xs : List Float) (ls : List ℕ) (k : ℕ) → runLong 10 1 ls 4096 k ≡ false → length (laneRun 3 xs ls 1 k) / 3 ≤ 4096
@@ -104,6 +105,82 @@ module _ (l : Lane) (at : At) (ks : List ℕ) (e : ks ≡ kept l) where
         indices = rw e at d;
         spans = rw (span-some (length (kept l)) id (at .floats / 3) (f / 3) (at .index) j (rw e at some)) g;
       }
+
+-- ---- the most that a lane can give
+
+front-few : (ps : List Float) (n : ℕ) → length (welded ps n .front) ≤ n
+unfolding welded weldNext
+front-few ps zero = omega arith
+front-few ps (suc n) =
+    let w = welded ps n in
+    rw length-append (omega (arith, front-few ps n, cond-few (keeps ps (w .last) (w .step) (suc n)) (w .last)))
+
+last-few : (m : ℕ) (near : Bool) (e n : ℕ) → m ≤ e → suc e ≤ n → 2 ≤ n → m + length (lastOf m near e) ≤ n
+unfolding lastOf
+last-few zero true e n h p q = omega arith
+last-few zero false e n h p q = omega arith
+last-few (suc m) near e n h p q = omega arith
+
+-- a rib for each point, or two
+kept-few : (ps : List Float) (m n : ℕ) → m ≤ n → 2 ≤ n → length (keptOf ps m) ≤ n
+unfolding keptOf
+kept-few ps zero n h p = omega arith
+kept-few ps (suc m) n h p = rw length-append (last-few (length (welded ps m .front)) (lt (stepOf ps 0 m) micro) m n (front-few ps m) h p)
+
+triangle-few : (flat : Bool) (a b c : ℕ) → length (triangleOf flat a b c) ≤ 3
+unfolding triangleOf
+triangle-few true a b c = omega arith
+triangle-few false a b c = omega arith
+
+indices-few : (v : ℕ) (l : Lane) (ks : List ℕ) → length (indicesOf v l ks) ≤ 6 * (length ks - 1)
+unfolding indicesOf
+indices-few v l ks =
+    gather-most (indicesAt v l ks) 6
+    (λ i.
+    let a = ribAt l ks i in
+    let b = ribAt l ks (i + 1) in
+    let w = v + 2 * i in
+    omega (
+      arith,
+      segment-length w a b,
+      triangle-few (noArea (a .left) (a .right) (b .right)) w (w + 1) (w + 3),
+      triangle-few (noArea (a .left) (b .right) (b .left)) w (w + 3) (w + 2),
+    ))
+    (length ks - 1)
+
+span-few : (m id v v′ i i′ : ℕ) → length (spanOf m id v v′ i i′) ≤ 5
+unfolding spanOf
+span-few zero id v v′ i i′ = omega arith
+span-few (suc m) id v v′ i i′ = omega arith
+
+run-most : (xs : List Float) (ls : List ℕ) (k : ℕ) → length (laneRun 3 xs ls 1 k) / 3 ≤ endOf 10 1 ls k - startOf 10 1 ls k
+unfolding laneRun runOf
+run-most xs ls k =
+    let s = startOf 10 1 ls k in
+    let e = endOf 10 1 ls k in
+    omega (arith, length-take (3 * e - 3 * s) (drop (3 * s) xs))
+
+lane-few : (g : Given) (k n : ℕ) → endOf 10 1 (g .lanes) k - startOf 10 1 (g .lanes) k ≤ n → 2 ≤ n → length (kept (laneAt g k)) ≤ n
+unfolding laneAt kept
+lane-few g k n h p = kept-few (laneRun 3 (g .points) (g .lanes) 1 k) (length (laneRun 3 (g .points) (g .lanes) 1 k) / 3) n (omega (arith, run-most (g .points) (g .lanes) k)) p
+
+pub next-enough : (g : Given) (k : ℕ) (at r : At) → Enough g k at → Topped (g .lanes) k at r → Enough g (k + 1) r
+unfolding laneVertices laneIndices laneSpan
+next-enough g k at r s t =
+    let l = laneAt g k in
+    let few = lane-few g k (t .ribs) (t .enough) (t .two) in
+    record {
+      floats = rw (gather-next (laneVertices g) k, length-append) (omega (arith, s .floats, t .floats, few, vertices-length l (kept l)));
+      index = rw (gather-next (laneIndices g) k, length-append) (omega (arith, s .index, t .index, few, indices-few (baseOf g k) l (kept l)));
+      word =
+          rw (gather-next (laneSpan g) k, length-append)
+          (omega (
+            arith,
+            s .word,
+            t .word,
+            span-few (length (kept l)) (wordOf 10 (g .lanes) k 0) (baseOf g k) (baseOf g (k + 1)) (indexOf g k) (indexOf g (k + 1)),
+          ));
+    }
 
 -- the sizes with lane k
 pub next-sizes : (g : Given) (k : ℕ) (at r : At) → Sizes g k at → Grown (laneAt g k) at r → Sizes g (k + 1) r
@@ -207,6 +284,44 @@ module _ (g : Given) (at : At) (sizes : Sizes g (lanesOf g) at) (v n : List Floa
       → refused a b ≡ resultOf g (length v) (length n) (length i) (length s)
   unfolding resultOf judge meshOf
   turned-back a b e = rw (← (sizes .floats), ← (sizes .index), ← (sizes .word), e)
+
+-- where the most fits, so does the mesh
+module _ (g : Given) (at : At) (enough : Enough g (lanesOf g) at) (v n : List Float) (i s : List ℕ)
+    (e : resultFault (at .floats) (at .index) (at .word) (length v) (length n) (length i) (length s) ≡ fine) where
+  pub most-fits : Fitting g (lanesOf g) v n i s
+  unfolding resultFault
+  most-fits =
+      let e₂ = rest _ _ _ _ e in
+      let e₃ = rest _ _ _ _ e₂ in
+      let e₄ = rest _ _ _ _ e₃ in
+      let e₅ = rest _ _ _ _ e₄ in
+      let e₆ = rest _ _ _ _ e₅ in
+      let e₇ = rest _ _ _ _ e₆ in
+      record {
+        vertices = omega (arith, enough .floats, ltb-false (length v) (at .floats) (first _ _ _ _ e₄));
+        normals = omega (arith, enough .floats, ltb-false (length n) (at .floats) (first _ _ _ _ e₅));
+        indices = omega (arith, enough .index, ltb-false (length i) (at .index) (first _ _ _ _ e₆));
+        spans = omega (arith, enough .word, ltb-false (length s) (at .word) (first _ _ _ _ e₇));
+        few-floats = omega (arith, enough .floats, ltb-false 196608 (at .floats) (first _ _ _ _ e));
+        few-index = omega (arith, enough .index, ltb-false 196608 (at .index) (first _ _ _ _ e₂));
+      }
+
+  most-words : at .word ≤ 5 * 1024
+  unfolding resultFault
+  most-words = ltb-false (5 * 1024) (at .word) (first _ _ _ _ (rest _ _ _ _ (rest _ _ _ _ e)))
+
+  pub most-fine : (r : At) → Sizes g (lanesOf g) r → resultFault (r .floats) (r .index) (r .word) (length v) (length n) (length i) (length s) ≡ fine
+  unfolding resultFault refuse
+  most-fine r z =
+      let f = most-fits in
+      let w : r .word ≤ 5 * 1024 = omega (arith, z .word, enough .word, most-words) in
+      let p₁ : r .floats ≤ 196608 = omega (arith, z .floats, f .few-floats) in
+      let p₂ : r .index ≤ 196608 = omega (arith, z .index, f .few-index) in
+      let p₃ : r .floats ≤ length v = omega (arith, z .floats, f .vertices) in
+      let p₄ : r .floats ≤ length n = omega (arith, z .floats, f .normals) in
+      let p₅ : r .index ≤ length i = omega (arith, z .index, f .indices) in
+      let p₆ : r .word ≤ length s = omega (arith, z .word, f .spans) in
+      simp (le-ltb 196608 (r .floats) p₁, le-ltb 196608 (r .index) p₂, le-ltb (5 * 1024) (r .word) w, le-ltb (length v) (r .floats) p₃, le-ltb (length n) (r .floats) p₄, le-ltb (length i) (r .index) p₅, le-ltb (length s) (r .word) p₆)
 
 -- what is written is what the definition counts
 module _ (g : Given) (r : At) {v v′ n n′ : List Float} {i i′ s s′ : List ℕ} (w : Written g (lanesOf g) r v v′ n n′ i i′ s s′) where

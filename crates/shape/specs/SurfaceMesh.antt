@@ -2,7 +2,7 @@
 -- Definitions only. Assumes nothing.
 use mathlib.Core.Path.{_≡_}
 use mathlib.Core.List.{List, [], _∷_}
-use Prim.Native.Nat.{ℕ, zero, suc, _+_, _*_, _/_, _≤_}
+use Prim.Native.Nat.{ℕ, zero, suc, _+_, _-_, _*_, _/_, _≤_}
 use lib.Dec.{ltb}
 use lib.ListN.{length}
 use lib.Ieee.{Float}
@@ -149,6 +149,22 @@ pub record Grown (l : Lane) (at r : At) : Type 0 where
   pub few-floats : r .floats ≤ at .floats + 24576
   pub few-index : r .index ≤ at .index + 24576
   pub few-words : r .word ≤ at .word + 5
+
+-- the most that lane k can add to the sizes `at`, which gives r: n ribs, a rib for each point or two
+pub record Topped (ls : List ℕ) (k : ℕ) (at r : At) : Type 0 where
+  pub ribs : ℕ
+  pub enough : endOf 10 1 ls k - startOf 10 1 ls k ≤ ribs
+  pub two : 2 ≤ ribs
+  pub few : ribs ≤ 4096
+  pub floats : r .floats ≡ at .floats + 6 * ribs
+  pub index : r .index ≡ at .index + 6 * (ribs - 1)
+  pub word : r .word ≡ at .word + 5
+
+-- the mesh of the first n lanes is within the sizes r
+pub record Enough (g : Given) (n : ℕ) (r : At) : Type 0 where
+  pub floats : length (gather (laneVertices g) n) ≤ r .floats
+  pub index : length (gather (laneIndices g) n) ≤ r .index
+  pub word : length (gather (laneSpan g) n) ≤ r .word
 
 -- the sizes of the mesh of the first n lanes
 pub record Sizes (g : Given) (n : ℕ) (r : At) : Type 0 where

@@ -1,10 +1,10 @@
 // The strips of lanes, merged into one mesh (`RoadNetwork::surface_mesh`).
 ghost use mathlib.Core.Path.{_≡_};
 ghost use mathlib.Core.Bool.{cond, false, _&&_};
-ghost use mathlib.Core.List.{[], _∷_};
+ghost use mathlib.Core.List.{List, [], _∷_};
 ghost use Prim.Native.Nat.{ℕ, min, _^_, _+_, _-_, _*_, _/_, _<_, _≤_};
 ghost use lib.Dec.{ltb};
-ghost use lib.Ieee.{lt};
+ghost use lib.Ieee.{Float, lt};
 ghost use lib.ListN.{length, getD};
 ghost use lib.Seq.{sets};
 ghost use Rattle.rounding.specs.Thresholds.{micro};
@@ -51,10 +51,13 @@ ghost use Rattle.shape.specs.SurfaceMesh.{
   inputFault,
   spanOf,
   resultFault,
+  countsOf,
   resultOf,
   answerOf,
   Meshes,
   Grown,
+  Topped,
+  Enough,
   Sizes,
   Room,
   Wrote,
@@ -589,20 +592,20 @@ fn put_span(
     at + 5
 }
 
-// The sizes with one more lane.
+// The sizes with one more lane. `kept` is room to work in.
 fn size_strip(
     points: &[f32],
     tangents: &[f32],
     widths: &[f32],
     banks: &[f32],
     width: f32,
+    kept: &mut [u32],
     at: At,
 ) -> At
-    requires { ⌜ (length (now points) / 3 ≤ 4096) × (at .floats < 2 ^ 60) × (at .index < 2 ^ 60) × (at .word < 2 ^ 60) ⌝ }
+    requires { ⌜ (length (now points) / 3 ≤ 4096) × (length (now kept) ≡ 4096) × (at .floats < 2 ^ 60) × (at .index < 2 ^ 60) × (at .word < 2 ^ 60) ⌝ }
     ensures { λ r. ⌜ Grown (laneOf (now (points .entry)) (now (tangents .entry)) (now (widths .entry)) (now (banks .entry)) width) at r ⌝ }
 {
-    let mut kept = [0u32; 4096];
-    let n = weld(points, &mut kept);
+    let n = weld(points, kept);
     let ks = &kept[..n];
     let m = count_indices(points, tangents, widths, banks, width, ks);
     At {
@@ -612,7 +615,7 @@ fn size_strip(
     }
 }
 
-// A lane's strip into the memory, from `at` on.
+// A lane's strip into the memory, from `at` on. `kept` is room to work in.
 fn put_strip(
     points: &[f32],
     tangents: &[f32],
@@ -620,18 +623,18 @@ fn put_strip(
     banks: &[f32],
     width: f32,
     id: usize,
+    kept: &mut [u32],
     at: At,
     vertices: &mut [f32],
     normals: &mut [f32],
     indices: &mut [u32],
     spans: &mut [u32],
 ) -> At
-    requires { ⌜ (length (now points) / 3 ≤ 4096) × (id < 2 ^ 32) ⌝ }
+    requires { ⌜ (length (now points) / 3 ≤ 4096) × (id < 2 ^ 32) × (length (now kept) ≡ 4096) ⌝ }
     requires { ⌜ Room (laneOf (now points) (now tangents) (now widths) (now banks) width) at (now vertices) (now normals) (now indices) (now spans) ⌝ }
     ensures { λ r. ⌜ Wrote (laneOf (now (points .entry)) (now (tangents .entry)) (now (widths .entry)) (now (banks .entry)) width) id at r (now (vertices .entry)) (now (vertices .exit)) (now (normals .entry)) (now (normals .exit)) (now (indices .entry)) (now (indices .exit)) (now (spans .entry)) (now (spans .exit)) ⌝ }
 {
-    let mut kept = [0u32; 4096];
-    let n = weld(points, &mut kept);
+    let n = weld(points, kept);
     if n == 0 {
         return at;
     }
@@ -674,16 +677,17 @@ fn size_lane(
     banks: &[f32],
     lanes: &[u32],
     k: usize,
+    kept: &mut [u32],
     at: At,
 ) -> At
-    requires { ⌜ (k < 2 ^ 58) × (runLong 10 1 (now lanes) 4096 k ≡ false) × (at .floats < 2 ^ 60) × (at .index < 2 ^ 60) × (at .word < 2 ^ 60) ⌝ }
+    requires { ⌜ (k < 2 ^ 58) × (runLong 10 1 (now lanes) 4096 k ≡ false) × (length (now kept) ≡ 4096) × (at .floats < 2 ^ 60) × (at .index < 2 ^ 60) × (at .word < 2 ^ 60) ⌝ }
     ensures { λ r. ⌜ Grown (laneAt (given (now (points .entry)) (now (tangents .entry)) (now (widths .entry)) (now (banks .entry)) (now (lanes .entry))) k) at r ⌝ }
 {
     let p = lane_run(3, points, lanes, 1, k);
     let t = lane_run(3, tangents, lanes, 3, k);
     let w = lane_run(1, widths, lanes, 5, k);
     let b = lane_run(2, banks, lanes, 7, k);
-    size_strip(p, t, w, b, default_width(lanes, k), at)
+    size_strip(p, t, w, b, default_width(lanes, k), kept, at)
 }
 
 // Lane k's strip into the memory, from `at` on.
@@ -694,13 +698,14 @@ fn put_lane(
     banks: &[f32],
     lanes: &[u32],
     k: usize,
+    kept: &mut [u32],
     at: At,
     vertices: &mut [f32],
     normals: &mut [f32],
     indices: &mut [u32],
     spans: &mut [u32],
 ) -> At
-    requires { ⌜ (k < 2 ^ 58) × (runLong 10 1 (now lanes) 4096 k ≡ false) ⌝ }
+    requires { ⌜ (k < 2 ^ 58) × (runLong 10 1 (now lanes) 4096 k ≡ false) × (length (now kept) ≡ 4096) ⌝ }
     requires { ⌜ Room (laneAt (given (now points) (now tangents) (now widths) (now banks) (now lanes)) k) at (now vertices) (now normals) (now indices) (now spans) ⌝ }
     ensures { λ r. ⌜ Wrote (laneAt (given (now (points .entry)) (now (tangents .entry)) (now (widths .entry)) (now (banks .entry)) (now (lanes .entry))) k) (wordOf 10 (now (lanes .entry)) k 0) at r (now (vertices .entry)) (now (vertices .exit)) (now (normals .entry)) (now (normals .exit)) (now (indices .entry)) (now (indices .exit)) (now (spans .entry)) (now (spans .exit)) ⌝ }
 {
@@ -710,7 +715,9 @@ fn put_lane(
     let b = lane_run(2, banks, lanes, 7, k);
     let width = default_width(lanes, k);
     let id = record_word(lanes, 10, k, 0);
-    put_strip(p, t, w, b, width, id, at, vertices, normals, indices, spans)
+    put_strip(
+        p, t, w, b, width, id, kept, at, vertices, normals, indices, spans,
+    )
 }
 
 // The sizes of the mesh of the first n lanes.
@@ -725,6 +732,7 @@ fn totals(
     requires { ⌜ (n ≤ 1024) × (any (runLong 10 1 (now lanes) 4096) n ≡ false) ⌝ }
     ensures { λ r. ⌜ Sizes (given (now (points .entry)) (now (tangents .entry)) (now (widths .entry)) (now (banks .entry)) (now (lanes .entry))) n r ⌝ }
 {
+    let mut kept = [0u32; 4096];
     let mut at = At {
         floats: 0,
         index: 0,
@@ -732,7 +740,48 @@ fn totals(
     };
     let mut k: usize = 0;
     while k < n {
-        at = size_lane(points, tangents, widths, banks, lanes, k, at);
+        at = size_lane(points, tangents, widths, banks, lanes, k, &mut kept, at);
+        k += 1;
+    }
+    at
+}
+
+// The most that lane k can add to the sizes: a rib for each point, or two.
+fn most_lane(lanes: &[u32], k: usize, at: At) -> At
+    requires { ⌜ (k < 2 ^ 58) × (runLong 10 1 (now lanes) 4096 k ≡ false) × (at .floats < 2 ^ 60) × (at .index < 2 ^ 60) × (at .word < 2 ^ 60) ⌝ }
+    ensures { λ r. ⌜ Topped (now (lanes .entry)) k at r ⌝ }
+{
+    let s = record_word(lanes, 10, k, 1);
+    let e = record_word(lanes, 10, k, 2);
+    let n = at_least_two(s, e);
+    At {
+        floats: at.floats + 6 * n,
+        index: at.index + 6 * (n - 1),
+        word: at.word + 5,
+    }
+}
+
+// e - s, or 2 if that is less.
+fn at_least_two(s: usize, e: usize) -> usize
+    requires { ⌜ (s < 2 ^ 32) × (e < 2 ^ 32) ⌝ }
+    ensures { λ r. ⌜ (2 ≤ r) × (e - s ≤ r) × ((m : ℕ) → 2 ≤ m → e - s ≤ m → r ≤ m) ⌝ }
+{
+    if s + 2 < e { e - s } else { 2 }
+}
+
+// The most that the first n lanes can give.
+fn most_sizes(lanes: &[u32], n: usize) -> At
+    requires { ⌜ (n ≤ 1024) × (any (runLong 10 1 (now lanes) 4096) n ≡ false) ⌝ }
+    ensures { λ r. ⌜ ((ps ts ws bs : List Float) → Enough (given ps ts ws bs (now (lanes .entry))) n r) ⌝ }
+{
+    let mut at = At {
+        floats: 0,
+        index: 0,
+        word: 0,
+    };
+    let mut k: usize = 0;
+    while k < n {
+        at = most_lane(lanes, k, at);
         k += 1;
     }
     at
@@ -755,6 +804,7 @@ fn put_lanes(
     requires { ⌜ Fitting (given (now points) (now tangents) (now widths) (now banks) (now lanes)) n (now vertices) (now normals) (now indices) (now spans) ⌝ }
     ensures { λ r. ⌜ Written (given (now (points .entry)) (now (tangents .entry)) (now (widths .entry)) (now (banks .entry)) (now (lanes .entry))) n r (now (vertices .entry)) (now (vertices .exit)) (now (normals .entry)) (now (normals .exit)) (now (indices .entry)) (now (indices .exit)) (now (spans .entry)) (now (spans .exit)) ⌝ }
 {
+    let mut kept = [0u32; 4096];
     let mut at = At {
         floats: 0,
         index: 0,
@@ -763,7 +813,7 @@ fn put_lanes(
     let mut k: usize = 0;
     while k < n {
         at = put_lane(
-            points, tangents, widths, banks, lanes, k, at, vertices, normals, indices, spans,
+            points, tangents, widths, banks, lanes, k, &mut kept, at, vertices, normals, indices, spans,
         );
         k += 1;
     }
@@ -783,6 +833,17 @@ pub struct MeshCounts {
 pub enum MeshAnswer {
     Made(MeshCounts),
     Refused(Refusal),
+}
+
+fn counts(at: At) -> MeshCounts
+    ensures { λ r. ⌜ r ≡ countsOf (at .floats) (at .index) (at .word) ⌝ }
+{
+    MeshCounts {
+        vertices: at.floats / 3,
+        normals: at.floats / 3,
+        indices: at.index,
+        spans: at.word / 5,
+    }
 }
 
 // Why the input is turned back, if it is.
@@ -866,8 +927,8 @@ fn result_fault(at: At, vertices: usize, normals: usize, indices: usize, spans: 
     Check::Fine
 }
 
-// The call, once its input is checked.
-fn mesh_checked(
+// The call, once its input is checked: the mesh is counted, and written if it fits.
+fn mesh_counted(
     points: &[f32],
     tangents: &[f32],
     widths: &[f32],
@@ -896,12 +957,43 @@ fn mesh_checked(
             let e = put_lanes(
                 points, tangents, widths, banks, lanes, n, vertices, normals, indices, spans,
             );
-            MeshAnswer::Made(MeshCounts {
-                vertices: e.floats / 3,
-                normals: e.floats / 3,
-                indices: e.index,
-                spans: e.word / 5,
-            })
+            MeshAnswer::Made(counts(e))
+        }
+    }
+}
+
+// The same. Where the most that the lanes can give fits, nothing need be counted first.
+fn mesh_checked(
+    points: &[f32],
+    tangents: &[f32],
+    widths: &[f32],
+    banks: &[f32],
+    lanes: &[u32],
+    vertices: &mut [f32],
+    normals: &mut [f32],
+    indices: &mut [u32],
+    spans: &mut [u32],
+) -> MeshAnswer
+    requires { ⌜ inputFault (given (now points) (now tangents) (now widths) (now banks) (now lanes)) ≡ fine ⌝ }
+    ensures { λ r. ⌜ Meshes (given (now (points .entry)) (now (tangents .entry)) (now (widths .entry)) (now (banks .entry)) (now (lanes .entry))) (resultOf (given (now (points .entry)) (now (tangents .entry)) (now (widths .entry)) (now (banks .entry)) (now (lanes .entry))) (length (now (vertices .entry))) (length (now (normals .entry))) (length (now (indices .entry))) (length (now (spans .entry)))) r (now (vertices .entry)) (now (vertices .exit)) (now (normals .entry)) (now (normals .exit)) (now (indices .entry)) (now (indices .exit)) (now (spans .entry)) (now (spans .exit)) ⌝ }
+{
+    let n = lanes.len() / 10;
+    let f = result_fault(
+        most_sizes(lanes, n),
+        vertices.len(),
+        normals.len(),
+        indices.len(),
+        spans.len(),
+    );
+    match f {
+        Check::Faulty(r) => mesh_counted(
+            points, tangents, widths, banks, lanes, vertices, normals, indices, spans,
+        ),
+        Check::Fine => {
+            let e = put_lanes(
+                points, tangents, widths, banks, lanes, n, vertices, normals, indices, spans,
+            );
+            MeshAnswer::Made(counts(e))
         }
     }
 }

@@ -30,6 +30,11 @@ module _ {ℓ} {A : Type ℓ} (f : ℕ → List A) where
   gather-even k e zero = sym (mul-zero k)
   gather-even k e (suc n) = rw (length-append, e, gather-even k e n, mul-suc)
 
+  pub gather-most : (k : ℕ) → ((i : ℕ) → length (f i) ≤ k) → (n : ℕ) → length (gather f n) ≤ k * n
+  unfolding gather
+  gather-most k e zero = omega arith
+  gather-most k e (suc n) = rw (length-append, mul-suc) (omega (arith, gather-most k e n, e n))
+
   -- element t of what f makes of k, where it stands among all
   pub gather-at : (n k t : ℕ) (d : A) → k < n → t < length (f k) → getD (gather f n) (length (gather f k) + t) d ≡ getD (f k) t d
   unfolding gather

@@ -26,7 +26,7 @@ record-word-requires c κs = search needs
 
 put-strip-requires : tie.Need-put-strip-requires
 unfolding laneAt
-put-strip-requires c κs = ((rw (c .before .before .before .before .before .before .before .before .before .lane-run .ensures) (run-short (now (c .before .before .before .before .before .before .before .before .before .before .before .before .before .before .before .before .before .before .before .args .points)) (now (c .before .before .before .before .before .before .before .before .before .before .before .before .before .before .before .before .before .before .before .args .lanes)) (c .before .before .before .before .before .before .before .before .before .before .before .before .before .before .before .before .before .before .before .args .k) (c .before .before .before .before .before .before .before .before .before .before .before .before .before .before .before .before .before .before .before .pre .0 .1)), c .before .before .before .before .record-word .ensures .1), rw (c .before .before .before .before .before .before .before .before .before .lane-run .ensures, c .before .before .before .before .before .before .before .before .lane-run2 .ensures, c .before .before .before .before .before .before .before .lane-run3 .ensures, c .before .before .before .before .before .before .lane-run4 .ensures, c .before .before .before .before .before .default-width .ensures) (c .before .before .before .before .before .before .before .before .before .before .before .before .before .before .before .before .before .before .before .pre .1))
+put-strip-requires c κs = ((rw (c .before .before .before .before .before .before .before .before .before .before .lane-run .ensures) (run-short (now (c .before .before .before .before .before .before .before .before .before .before .before .before .before .before .before .before .before .before .before .before .before .args .points)) (now (c .before .before .before .before .before .before .before .before .before .before .before .before .before .before .before .before .before .before .before .before .before .args .lanes)) (c .before .before .before .before .before .before .before .before .before .before .before .before .before .before .before .before .before .before .before .before .before .args .k) (c .before .before .before .before .before .before .before .before .before .before .before .before .before .before .before .before .before .before .before .before .before .pre .0 .1)), c .before .before .before .before .before .record-word .ensures .1, c .before .before .before .before .before .before .before .before .before .before .before .before .before .before .before .before .before .before .before .before .before .pre .0 .2), rw (c .before .before .before .before .before .before .before .before .before .before .lane-run .ensures, c .before .before .before .before .before .before .before .before .before .lane-run2 .ensures, c .before .before .before .before .before .before .before .before .lane-run3 .ensures, c .before .before .before .before .before .before .before .lane-run4 .ensures, c .before .before .before .before .before .before .default-width .ensures) (c .before .before .before .before .before .before .before .before .before .before .before .before .before .before .before .before .before .before .before .before .before .pre .1))
 
 same-length : tie.Need-same-length
 same-length c = search needs
@@ -40,9 +40,12 @@ same-length-3 c = search needs
 same-length-4 : tie.Need-same-length-4
 same-length-4 c = search needs
 
+same-length-5 : tie.Need-same-length-5
+same-length-5 c = search needs
+
 returns : tie.Need-returns
 unfolding laneAt
-returns c = rw (c .before .before .before .before .before .before .before .before .before .before .before .before .before .before .before .before .before .before .lane-run .ensures, c .before .before .before .before .before .before .before .before .before .before .before .before .before .before .before .before .before .lane-run2 .ensures, c .before .before .before .before .before .before .before .before .before .before .before .before .before .before .before .before .lane-run3 .ensures, c .before .before .before .before .before .before .before .before .before .before .before .before .before .before .before .lane-run4 .ensures, c .before .before .before .before .before .before .before .before .before .before .before .before .before .before .default-width .ensures, c .before .before .before .before .before .before .before .before .before .before .before .before .before .record-word .ensures .0) at (c .before .before .before .before .before .before .before .before .put-strip .ensures)
+returns c = rw (c .before .before .before .before .before .before .before .before .before .before .before .before .before .before .before .before .before .before .before .before .before .lane-run .ensures, c .before .before .before .before .before .before .before .before .before .before .before .before .before .before .before .before .before .before .before .before .lane-run2 .ensures, c .before .before .before .before .before .before .before .before .before .before .before .before .before .before .before .before .before .before .before .lane-run3 .ensures, c .before .before .before .before .before .before .before .before .before .before .before .before .before .before .before .before .before .before .lane-run4 .ensures, c .before .before .before .before .before .before .before .before .before .before .before .before .before .before .before .before .before .default-width .ensures, c .before .before .before .before .before .before .before .before .before .before .before .before .before .before .before .before .record-word .ensures .0) at (c .before .before .before .before .before .before .before .before .before .before .put-strip .ensures)
 
 pub put-lane-spec : {M : Type 1} → statement M
 put-lane-spec =
@@ -59,4 +62,5 @@ put-lane-spec =
     same-length-2
     same-length-3
     same-length-4
+    same-length-5
     returns)

@@ -22,11 +22,14 @@ default-width-requires : tie.Need-default-width-requires
 default-width-requires c κs = search needs
 
 size-strip-requires : tie.Need-size-strip-requires
-size-strip-requires c κs = (rw (c .before .before .before .before .lane-run .ensures) (run-short (now (c .before .before .before .before .before .before .before .before .before .before .args .points)) (now (c .before .before .before .before .before .before .before .before .before .before .args .lanes)) (c .before .before .before .before .before .before .before .before .before .before .args .k) (c .before .before .before .before .before .before .before .before .before .before .pre .1)), c .before .before .before .before .before .before .before .before .before .before .pre .2, c .before .before .before .before .before .before .before .before .before .before .pre .3, c .before .before .before .before .before .before .before .before .before .before .pre .4)
+size-strip-requires c κs = (rw (c .before .before .before .before .before .lane-run .ensures) (run-short (now (c .before .before .before .before .before .before .before .before .before .before .before .before .args .points)) (now (c .before .before .before .before .before .before .before .before .before .before .before .before .args .lanes)) (c .before .before .before .before .before .before .before .before .before .before .before .before .args .k) (c .before .before .before .before .before .before .before .before .before .before .before .before .pre .1)), c .before .before .before .before .before .before .before .before .before .before .before .before .pre .2, c .before .before .before .before .before .before .before .before .before .before .before .before .pre .3, c .before .before .before .before .before .before .before .before .before .before .before .before .pre .4, c .before .before .before .before .before .before .before .before .before .before .before .before .pre .5)
+
+same-length : tie.Need-same-length
+same-length c = search needs
 
 returns : tie.Need-returns
 unfolding laneAt
-returns c = rw (c .before .before .before .before .before .lane-run .ensures, c .before .before .before .before .lane-run2 .ensures, c .before .before .before .lane-run3 .ensures, c .before .before .lane-run4 .ensures, c .before .default-width .ensures) at (c .size-strip .ensures)
+returns c = rw (c .before .before .before .before .before .before .before .before .lane-run .ensures, c .before .before .before .before .before .before .before .lane-run2 .ensures, c .before .before .before .before .before .before .lane-run3 .ensures, c .before .before .before .before .before .lane-run4 .ensures, c .before .before .before .before .default-width .ensures) at (c .before .before .size-strip .ensures)
 
 pub size-lane-spec : {M : Type 1} → statement M
 size-lane-spec =
@@ -38,4 +41,5 @@ size-lane-spec =
     lane-run-requires-4
     default-width-requires
     size-strip-requires
+    same-length
     returns)

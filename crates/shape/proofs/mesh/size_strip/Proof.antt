@@ -3,29 +3,25 @@ use mathlib.Core.Path.{_∙_}
 use native.Mathlib.Nat.{zero-add}
 use native.Mathlib.Omega.{arith}
 use denote.Ref.{now}
-use lib.ListN.{replicate, length-take}
+use lib.ListN.{length-take}
 use Rattle.shape.specs.Strip.{laneOf, kept}
 use Rattle.shape.specs.Laws.Memory.{put-front}
-use Rattle.shape.proofs.Strips.{blank-length}
 use Rattle.shape.proofs.Meshing.{grow}
 use borrow.Author.Needs.{needs}
 use Rattle.shape.proofs.mesh.size_strip.Statement.{statement}
 use Rattle.shape.proofs.mesh.size_strip.Tie as tie
 
-slice-aggregate-weld : tie.Need-slice-aggregate-weld
-slice-aggregate-weld c = search needs
-
 weld-requires : tie.Need-weld-requires
 weld-requires c κs = search needs
 
-array-share-prefix-kept : tie.Need-array-share-prefix-kept
-array-share-prefix-kept c = search needs
+slice-reshare-prefix-ks : tie.Need-slice-reshare-prefix-ks
+slice-reshare-prefix-ks c = search needs
 
 slice-aggregate-ks : tie.Need-slice-aggregate-ks
-slice-aggregate-ks c = let p = c .before .before .weld .ensures .0 in let e = put-front p (omega (arith, blank-length, c .before .before .weld .ensures .1)) in rw e (p .ends ∙ zero-add _)
+slice-aggregate-ks c = let p = c .before .before .before .weld .ensures .0 in let e = put-front p (omega (arith, c .before .before .before .before .before .before .before .before .before .before .pre .1, c .before .before .before .weld .ensures .1)) in rw e (p .ends ∙ zero-add _)
 
 count-indices-requires : tie.Need-count-indices-requires
-count-indices-requires c κs = simp length-take (omega (arith, c .before .before .weld .ensures .1))
+count-indices-requires c κs = simp length-take (omega (arith, c .before .before .before .weld .ensures .1))
 
 mul-t14 : tie.Need-mul-t14
 mul-t14 c = search needs
@@ -42,17 +38,19 @@ span-size-requires c κs = search needs
 add-t18 : tie.Need-add-t18
 add-t18 c = search needs
 
+same-length : tie.Need-same-length
+same-length c = search needs
+
 returns : tie.Need-returns
 unfolding kept
-returns c = let a = c .before .before .before .before .before .before .before .before .before .before .before .before .before .args in let l = laneOf (now (a .points)) (now (a .tangents)) (now (a .widths)) (now (a .banks)) (a .width) in grow l (replicate 4096 0) (c .before .before .before .before .before .before .before .weld .last .1 .0) (c .before .before .before .before .before .before .before .weld .result) (a .at) (c .before .before .before .before .count-indices .result) (c .before .span-size .result) (c .before .before .before .before .before .before .before .weld .ensures .0) (c .before .before .before .before .before .before .before .weld .ensures .1) blank-length (c .before .before .before .before .count-indices .ensures .0) (c .before .before .before .before .count-indices .ensures .1) (c .before .span-size .ensures .0) (c .before .span-size .ensures .1)
+returns c = let a = c .before .before .before .before .before .before .before .before .before .before .before .before .before .before .before .args in let l = laneOf (now (a .points)) (now (a .tangents)) (now (a .widths)) (now (a .banks)) (a .width) in grow l (now (a .kept)) (c .before .before .before .before .before .before .before .before .weld .last .1 .0) (c .before .before .before .before .before .before .before .before .weld .result) (a .at) (c .before .before .before .before .count-indices .result) (c .before .span-size .result) (c .before .before .before .before .before .before .before .before .weld .ensures .0) (c .before .before .before .before .before .before .before .before .weld .ensures .1) (c .before .before .before .before .before .before .before .before .before .before .before .before .before .before .before .pre .1) (c .before .before .before .before .count-indices .ensures .0) (c .before .before .before .before .count-indices .ensures .1) (c .before .span-size .ensures .0) (c .before .span-size .ensures .1)
 
 pub size-strip-spec : {M : Type 1} → statement M
 size-strip-spec =
     tie.close
     (tie.spec
-    slice-aggregate-weld
     weld-requires
-    array-share-prefix-kept
+    slice-reshare-prefix-ks
     slice-aggregate-ks
     count-indices-requires
     mul-t14
@@ -60,4 +58,5 @@ size-strip-spec =
     add-t16
     span-size-requires
     add-t18
+    same-length
     returns)
