@@ -2,3 +2,6 @@
 pub mod Heights
 pub mod Squares
 pub mod Surveys
+-- Lemmas of the function proofs.
+pub mod Strips
+pub mod Meshing

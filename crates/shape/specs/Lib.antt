@@ -7,4 +7,7 @@ pub mod Double
 pub mod Elevation
 pub mod ElevationSteps
 pub mod CasesElevation
+pub mod Strip
+pub mod SurfaceMesh
+pub mod CasesStrips
 pub mod Laws
