@@ -1,0 +1,39 @@
+-- What the steps of joining promise one another (document 01, "Junction outline"). Definitions only. Assumes nothing.
+use mathlib.Core.Path.{_≡_}
+use mathlib.Core.Bool.{false}
+use mathlib.Core.List.{List}
+use Prim.Native.Nat.{ℕ, _/_, _≤_}
+use lib.ListN.{length}
+use lib.Seq.{sets}
+use lib.Ieee.{Float}
+use Rattle.vector.specs.declared.coords.Point.{Point}
+use Rattle.shape.specs.declared.junction_areas.Held.{Held}
+use Rattle.shape.specs.declared.junction_areas.Joined.{Joined}
+use Rattle.shape.specs.declared.junction_areas.OutlineAnswer.{OutlineAnswer}
+use Rattle.shape.specs.Gather.{any}
+use Rattle.shape.specs.Refusal.{leaves}
+use Rattle.shape.specs.Lists.{runBad}
+use Rattle.shape.specs.Outline.{lastOf, flat, solid, joined, outlineAnswer, readOutline, resultOf}
+
+-- lists that are not turned back
+pub record Sane (ws : List ℕ) (xs : List Float) : Type 0 where
+  pub few : length ws ≤ 512
+  pub small : length xs ≤ 12288
+  pub runs : any (runBad 2 0 ws (length xs / 3)) (length ws / 2) ≡ false
+
+-- the memory, blank before, has the ring's coordinates at its front, and h tells of the ring
+pub record Holds (blank memory : List Float) (ring : List Point) (h : Held) : Type 0 where
+  pub many : h .count ≡ length ring
+  pub end : h .last ≡ lastOf ring
+  pub front : memory ≡ sets blank 0 (flat ring)
+
+-- the ring of the first k segments, the empty ones among them passed over
+pub record Joins (ws : List ℕ) (xs blank memory : List Float) (k : ℕ) (j : Joined) : Type 0 where
+  pub holds : Holds blank memory (joined ws xs (length (solid ws k)) .ring) (record { count = j .count; last = j .last })
+  pub solids : j .segments ≡ length (solid ws k)
+  pub gap : j .gap ≡ joined ws xs (length (solid ws k)) .gap
+
+-- the promise of the whole call
+pub record Outlines (ws : List ℕ) (xs before after : List Float) (answer : OutlineAnswer) : Type 0 where
+  pub given : readOutline answer ≡ outlineAnswer ws xs (length before)
+  pub memory : after ≡ leaves (outlineAnswer ws xs (length before)) (resultOf ws xs) before

@@ -1,0 +1,432 @@
+// The outline of a junction: its boundary segments joined to one ring of points.
+ghost use mathlib.Core.Path.{_≡_};
+ghost use mathlib.Core.List.{List, [], _∷_};
+ghost use Prim.Native.Nat.{ℕ, _+_, _-_, _*_, _/_, _^_, _≤_, _<_};
+ghost use lib.Ieee.{Float, lt, le};
+ghost use lib.ListN.{length, take};
+ghost use Rattle.rounding.specs.Extremes.{maxOf};
+ghost use Rattle.rounding.specs.Thresholds.{milli};
+ghost use Rattle.vector.specs.declared.coords.Point.{Point};
+ghost use Rattle.shape.specs.Memory.{Put};
+ghost use Rattle.shape.specs.Lists.{pointAt, startOf, endOf, lastEnd};
+ghost use Rattle.shape.specs.Refusal.{found, fine};
+ghost use Rattle.shape.specs.Outline.{
+  reachOf,
+  nearnessOf,
+  placeFrom,
+  pointFrom,
+  firstOf,
+  finalOf,
+  solid,
+  segmentOf,
+  added,
+  extended,
+  wholeLine,
+  droppedOf,
+  turnsFirst,
+  turnsLater,
+  turnsAt,
+  gapAt,
+  closedUp,
+  sideAt,
+  areaOf,
+  reversed,
+  flat,
+  outlineFault,
+};
+ghost use Rattle.shape.specs.OutlineSteps.{Sane, Holds, Joins, Outlines};
+use crate::lists::any_bad;
+use crate::lists::point_at;
+use crate::lists::record_word;
+use crate::refusal::Check;
+use crate::refusal::Refusal;
+use rounding::compare::hypot_above_milli;
+use rounding::compare::hypot_at_most_milli;
+use rounding::extremes::max32;
+use rounding::extremes::min32;
+use rounding::hypot::hypot;
+use vector::coords::Point;
+
+// A ring that was made: how many points it has, how many segments were empty, the greatest gap, whether
+// that is at most 0.1, and whether the ring ran clockwise and was reversed.
+pub struct Outline {
+    pub count: usize,
+    pub dropped: usize,
+    pub gap: f32,
+    pub closed: bool,
+    pub turned: bool,
+}
+
+pub enum OutlineAnswer {
+    Made(Outline),
+    Refused(Refusal),
+}
+
+// The ring so far: how many points it has, and the last of them.
+struct Held {
+    count: usize,
+    last: Point,
+}
+
+// The same, with how many segments it is made of and the greatest gap between them.
+struct Joined {
+    count: usize,
+    last: Point,
+    segments: usize,
+    gap: f32,
+}
+
+// How a segment is joined on: from its end or not, and the greatest gap with it.
+struct Turn {
+    back: bool,
+    gap: f32,
+}
+
+// ---- distances in x and y
+
+fn reach(p: Point, q: Point) -> f32
+    ensures { λ r. ⌜ r ≡ reachOf p q ⌝ }
+{
+    hypot(p.x - q.x, p.y - q.y)
+}
+
+// Is the distance above 1e-3? No root is taken for it, nor for the next.
+fn apart(p: Point, q: Point) -> bool
+    ensures { λ r. ⌜ r ≡ lt milli (reachOf p q) ⌝ }
+{
+    hypot_above_milli(p.x - q.x, p.y - q.y)
+}
+
+// Is it at most 1e-3?
+fn meets(p: Point, q: Point) -> bool
+    ensures { λ r. ⌜ r ≡ le (reachOf p q) milli ⌝ }
+{
+    hypot_at_most_milli(p.x - q.x, p.y - q.y)
+}
+
+// The distance to the nearer of two places.
+fn nearness(p: Point, a: Point, b: Point) -> f32
+    ensures { λ r. ⌜ r ≡ nearnessOf p a b ⌝ }
+{
+    min32(min32(3.4028235e38, reach(p, a)), reach(p, b))
+}
+
+// ---- which way round
+
+// The last of n places, and 0 where there is none.
+fn before_end(n: usize) -> usize
+    ensures { λ r. ⌜ r ≡ n - 1 ⌝ }
+{
+    if n == 0 { 0 } else { n - 1 }
+}
+
+// Place i of n from the front, or from the back.
+fn place(back: bool, n: usize, i: usize) -> usize
+    requires { ⌜ i < n ⌝ }
+    ensures { λ r. ⌜ r ≡ placeFrom back n i ⌝ }
+{
+    if back { n - (i + 1) } else { i }
+}
+
+fn first_point(s: &[f32]) -> Point
+    ensures { λ r. ⌜ r ≡ firstOf (now (s .entry)) ⌝ }
+{
+    point_at(s, 0)
+}
+
+fn final_point(s: &[f32]) -> Point
+    ensures { λ r. ⌜ r ≡ finalOf (now (s .entry)) ⌝ }
+{
+    point_at(s, before_end(s.len() / 3))
+}
+
+// Is the first segment s reversed, where t is the second?
+fn turns_first(s: &[f32], t: &[f32]) -> bool
+    ensures { λ r. ⌜ r ≡ turnsFirst (now (s .entry)) (now (t .entry)) ⌝ }
+{
+    let a = first_point(t);
+    let b = final_point(t);
+    nearness(first_point(s), a, b) < nearness(final_point(s), a, b)
+}
+
+// A later segment s, where the ring ends at `end`. The gap to it is one of the two distances compared.
+fn turn_later(end: Point, gap: f32, s: &[f32]) -> Turn
+    ensures { λ r. ⌜ (r .back ≡ turnsLater end (now (s .entry))) × (r .gap ≡ maxOf gap (reachOf end (pointFrom (turnsLater end (now (s .entry))) (now (s .entry)) 0))) ⌝ }
+{
+    let far = reach(end, final_point(s));
+    let near = reach(end, first_point(s));
+    if far < near {
+        return Turn {
+            back: true,
+            gap: max32(gap, far),
+        };
+    }
+    Turn {
+        back: false,
+        gap: max32(gap, near),
+    }
+}
+
+// The first segment from k on that is not empty, or how many segments there are.
+fn next_solid(segments: &[u32], k: usize) -> usize
+    requires { ⌜ (k ≤ length (now segments) / 2) × (length (now segments) ≤ 512) ⌝ }
+    ensures { λ r. ⌜ (k ≤ r) × (r ≤ length (now (segments .entry)) / 2) × (length (solid (now (segments .entry)) r) ≡ length (solid (now (segments .entry)) k)) ⌝ }
+    ensures { λ r. ⌜ (r < length (now (segments .entry)) / 2 → startOf 2 0 (now (segments .entry)) r < endOf 2 0 (now (segments .entry)) r) ⌝ }
+{
+    let n = segments.len() / 2;
+    let mut i = k;
+    while i < n {
+        if record_word(segments, 2, i, 0) < record_word(segments, 2, i, 1) {
+            return i;
+        }
+        i += 1;
+    }
+    i
+}
+
+// Is the first segment s, with k, reversed? If there is no second, it is not.
+fn turns_alone(segments: &[u32], points: &[f32], s: &[f32], k: usize) -> bool
+    requires { ⌜ Sane (now segments) (now points) ⌝ }
+    requires { ⌜ (k < length (now segments) / 2) × (startOf 2 0 (now segments) k < endOf 2 0 (now segments) k) × (length (solid (now segments) k) ≡ 0) × (now s ≡ segmentOf (now segments) (now points) k) ⌝ }
+    ensures { λ r. ⌜ ((end : Point) → r ≡ turnsAt (now (segments .entry)) (now (points .entry)) 0 end) ⌝ }
+{
+    let next = next_solid(segments, k + 1);
+    if next == segments.len() / 2 {
+        return false;
+    }
+    let a = 3 * record_word(segments, 2, next, 0);
+    let e = 3 * record_word(segments, 2, next, 1);
+    turns_first(s, &points[a..e])
+}
+
+// How segment s, with number k and not empty, is joined to the ring that j tells of.
+fn turn_at(segments: &[u32], points: &[f32], s: &[f32], j: Joined, k: usize) -> Turn
+    requires { ⌜ Sane (now segments) (now points) ⌝ }
+    requires { ⌜ (k < length (now segments) / 2) × (startOf 2 0 (now segments) k < endOf 2 0 (now segments) k) × (j .segments ≡ length (solid (now segments) k)) × (now s ≡ segmentOf (now segments) (now points) k) ⌝ }
+    ensures { λ r. ⌜ (r .back ≡ turnsAt (now (segments .entry)) (now (points .entry)) (j .segments) (j .last)) × (r .gap ≡ gapAt (now (segments .entry)) (now (points .entry)) (j .segments) (j .last) (j .gap)) ⌝ }
+{
+    if j.segments == 0 {
+        return Turn {
+            back: turns_alone(segments, points, s, k),
+            gap: j.gap,
+        };
+    }
+    turn_later(j.last, j.gap, s)
+}
+
+// ---- joining
+
+// A point into the memory, from `at` on.
+fn put_point(out: &mut [f32], at: usize, p: Point) -> usize
+    requires { ⌜ at + 3 ≤ length (now out) ⌝ }
+    ensures { λ r. ⌜ Put (now (out .entry)) (now (out .exit)) at (flat (p ∷ [])) r ⌝ }
+{
+    out[at] = p.x;
+    out[at + 1] = p.y;
+    out[at + 2] = p.z;
+    at + 3
+}
+
+// A point is added if it is more than 1e-3 from the last.
+fn add_point(line: &mut [f32], h: Held, p: Point) -> Held
+    requires { ⌜ 3 * h .count + 3 ≤ length (now line) ⌝ }
+    ensures { λ r. ⌜ ((blank : List Float) (ring : List Point) → Holds blank (now (line .entry)) ring h → Holds blank (now (line .exit)) (added ring p) r) × (r .count ≤ h .count + 1) ⌝ }
+{
+    if h.count != 0 {
+        if !apart(p, h.last) {
+            return h;
+        }
+    }
+    put_point(line, 3 * h.count, p);
+    Held {
+        count: h.count + 1,
+        last: p,
+    }
+}
+
+// The points of a segment, from its start or its end.
+fn append(s: &[f32], back: bool, line: &mut [f32], from: Held) -> Held
+    requires { ⌜ (3 * (from .count + length (now s) / 3) ≤ length (now line)) × (length (now s) ≤ 12288) ⌝ }
+    ensures { λ r. ⌜ ((blank : List Float) (ring : List Point) → Holds blank (now (line .entry)) ring from → Holds blank (now (line .exit)) (extended ring back (now (s .entry)) (length (now (s .entry)) / 3)) r) × (r .count ≤ from .count + length (now (s .entry)) / 3) ⌝ }
+{
+    let n = s.len() / 3;
+    let mut h = from;
+    let mut i: usize = 0;
+    while i < n {
+        let p = point_at(s, place(back, n, i));
+        h = add_point(line, h, p);
+        i += 1;
+    }
+    h
+}
+
+// Segment k, unless it is empty. It is passed on as its part of the list of points.
+fn join_step(segments: &[u32], points: &[f32], line: &mut [f32], j: Joined, k: usize) -> Joined
+    requires { ⌜ Sane (now segments) (now points) ⌝ }
+    requires { ⌜ (k < length (now segments) / 2) × (length (now line) ≡ 12288) × (j .count ≤ lastEnd 2 0 (now segments) k) × (j .segments ≡ length (solid (now segments) k)) ⌝ }
+    ensures { λ r. ⌜ ((blank : List Float) → Joins (now (segments .entry)) (now (points .entry)) blank (now (line .entry)) k j → Joins (now (segments .entry)) (now (points .entry)) blank (now (line .exit)) (k + 1) r) × (r .count ≤ lastEnd 2 0 (now (segments .entry)) (k + 1)) ⌝ }
+{
+    let a = record_word(segments, 2, k, 0);
+    let e = record_word(segments, 2, k, 1);
+    if e <= a {
+        return j;
+    }
+    let from = 3 * a;
+    let to = 3 * e;
+    let t = turn_at(segments, points, &points[from..to], j, k);
+    let held = Held { count: j.count, last: j.last };
+    let h = append(&points[from..to], t.back, line, held);
+    Joined {
+        count: h.count,
+        last: h.last,
+        segments: j.segments + 1,
+        gap: t.gap,
+    }
+}
+
+// All segments, one after another.
+fn join(segments: &[u32], points: &[f32], line: &mut [f32]) -> Joined
+    requires { ⌜ Sane (now segments) (now points) ⌝ }
+    requires { ⌜ length (now line) ≡ 12288 ⌝ }
+    ensures { λ r. ⌜ Joins (now (segments .entry)) (now (points .entry)) (now (line .entry)) (now (line .exit)) (length (now (segments .entry)) / 2) r × (r .count ≤ 4096) ⌝ }
+{
+    let mut j = Joined {
+        count: 0,
+        last: Point { x: 0.0, y: 0.0, z: 0.0 },
+        segments: 0,
+        gap: 0.0,
+    };
+    let mut k: usize = 0;
+    while k < segments.len() / 2 {
+        j = join_step(segments, points, line, j, k);
+        k += 1;
+    }
+    j
+}
+
+// ---- the ring as a whole
+
+// How many points the ring has without its closing point.
+fn open_count(ring: &[f32]) -> usize
+    requires { ⌜ length (now ring) < 2 ^ 60 ⌝ }
+    ensures { λ r. ⌜ ((line : List Point) → now (ring .entry) ≡ flat line → r ≡ length (closedUp line)) × (r ≤ length (now (ring .entry)) / 3) ⌝ }
+{
+    let n = ring.len() / 3;
+    if 1 < n {
+        if meets(first_point(ring), final_point(ring)) {
+            return n - 1;
+        }
+    }
+    n
+}
+
+// Side i of a ring of n: from point i to the next, the first after the last.
+fn side_at(ring: &[f32], n: usize, i: usize) -> f32
+    requires { ⌜ (i < 2 ^ 60) × (n ≡ length (now ring) / 3) ⌝ }
+    ensures { λ r. ⌜ ((line : List Point) → now (ring .entry) ≡ flat line → r ≡ sideAt line i) ⌝ }
+{
+    let a = point_at(ring, i);
+    let b = point_at(ring, if i + 1 == n { 0 } else { i + 1 });
+    a.x * b.y - b.x * a.y
+}
+
+// Twice the area that a ring encloses: above 0 where it runs counter-clockwise.
+fn signed_area(ring: &[f32]) -> f32
+    requires { ⌜ length (now ring) < 2 ^ 60 ⌝ }
+    ensures { λ r. ⌜ ((line : List Point) → now (ring .entry) ≡ flat line → r ≡ areaOf line) ⌝ }
+{
+    let n = ring.len() / 3;
+    let mut area = side_at(ring, n, 0);
+    let mut i: usize = 1;
+    while i < n {
+        area = area + side_at(ring, n, i);
+        i += 1;
+    }
+    area
+}
+
+// The points of a ring, from the front or from the back.
+fn put_ring(ring: &[f32], back: bool, out: &mut [f32]) -> usize
+    requires { ⌜ length (now ring) ≤ length (now out) ⌝ }
+    ensures { λ r. ⌜ ((line : List Point) → now (ring .entry) ≡ flat line → Put (now (out .entry)) (now (out .exit)) 0 (flat (reversed back line)) r) ⌝ }
+{
+    let n = ring.len() / 3;
+    let mut q: usize = 0;
+    let mut i: usize = 0;
+    while i < n {
+        q = put_point(out, q, point_at(ring, place(back, n, i)));
+        i += 1;
+    }
+    q
+}
+
+// The answer for a ring that was joined with the greatest gap given.
+fn finish(ring: &[f32], gap: f32, dropped: usize, out: &mut [f32]) -> OutlineAnswer
+    requires { ⌜ length (now ring) < 2 ^ 60 ⌝ }
+    ensures { λ r. ⌜ ((ws : List ℕ) (xs : List Float) → outlineFault ws xs ≡ fine → now (ring .entry) ≡ flat (wholeLine ws xs .ring) → gap ≡ wholeLine ws xs .gap → dropped ≡ droppedOf ws → Outlines ws xs (now (out .entry)) (now (out .exit)) r) ⌝ }
+{
+    let count = open_count(ring);
+    let size = 3 * count;
+    if out.len() < size {
+        return OutlineAnswer::Refused(Refusal::ShortOutput(size));
+    }
+    let widest = max32(gap, reach(final_point(ring), first_point(ring)));
+    let open = &ring[..size];
+    let turned = signed_area(open) < 0.0;
+    put_ring(open, turned, out);
+    OutlineAnswer::Made(Outline {
+        count: count,
+        dropped: dropped,
+        gap: widest,
+        closed: widest <= 0.1,
+        turned: turned,
+    })
+}
+
+// ---- the call
+
+// Why the lists are turned back, if they are.
+fn outline_fault(segments: &[u32], points: &[f32]) -> Check
+    ensures { λ r. ⌜ found r ≡ outlineFault (now (segments .entry)) (now (points .entry)) ⌝ }
+{
+    if 2 * 256 < segments.len() {
+        return Check::Faulty(Refusal::Oversize(256));
+    }
+    if 3 * 4096 < points.len() {
+        return Check::Faulty(Refusal::Oversize(4096));
+    }
+    if segments.len() % 2 != 0 {
+        return Check::Faulty(Refusal::Ragged(0));
+    }
+    if any_bad(segments, 2, 0, points.len() / 3, segments.len() / 2) {
+        return Check::Faulty(Refusal::Ragged(0));
+    }
+    if points.len() % 3 != 0 {
+        return Check::Faulty(Refusal::Ragged(1));
+    }
+    Check::Fine
+}
+
+// The outline of lists that are sound.
+fn ring_of(segments: &[u32], points: &[f32], out: &mut [f32]) -> OutlineAnswer
+    requires { ⌜ outlineFault (now segments) (now points) ≡ fine ⌝ }
+    ensures { λ r. ⌜ Outlines (now (segments .entry)) (now (points .entry)) (now (out .entry)) (now (out .exit)) r ⌝ }
+{
+    let mut memory = [0.0f32; 12288];
+    let j = join(segments, points, &mut memory);
+    let size = 3 * j.count;
+    let dropped = segments.len() / 2 - j.segments;
+    finish(&memory[..size], j.gap, dropped, out)
+}
+
+// The ring of the boundary whose segments are runs of the list of points. Its coordinates are left at
+// the front of `out`.
+pub fn ring(segments: &[u32], points: &[f32], out: &mut [f32]) -> OutlineAnswer
+    ensures { λ r. ⌜ Outlines (now (segments .entry)) (now (points .entry)) (now (out .entry)) (now (out .exit)) r ⌝ }
+{
+    let fault = outline_fault(segments, points);
+    match fault {
+        Check::Faulty(r) => OutlineAnswer::Refused(r),
+        Check::Fine => ring_of(segments, points, out),
+    }
+}
