@@ -1,5 +1,5 @@
 -- Document 01, "Junction outline": boundary segments joined to a ring. Definitions only. Assumes nothing.
-use mathlib.Core.Bool.{Bool, false, cond, _&&_}
+use mathlib.Core.Bool.{Bool, true, false, cond, _&&_}
 use mathlib.Core.List.{List, [], _∷_, _++_}
 use Prim.Native.Nat.{ℕ, zero, suc, _+_, _-_, _*_, _/_}
 use lib.Dec.{ltb, eqb}
@@ -86,10 +86,14 @@ abbrev pub lastOf : List Point → Point
 lastOf ring = getD ring (length ring - 1) origin
 
 -- a point is added if it is more than 1e-3 (0x3a83126f) from the last, or if it is the first of all
-unfoldable pub added : List Point → Point → List Point
+unfoldable pub isNew : List Point → Point → Bool
 unfolding reachOf origin lt
-added [] p = p ∷ []
-added (q ∷ ring) p = cond (lt milli (reachOf p (lastOf (q ∷ ring)))) (q ∷ ring ++ p ∷ []) (q ∷ ring)
+isNew [] p = true
+isNew (q ∷ ring) p = lt milli (reachOf p (lastOf (q ∷ ring)))
+
+unfoldable pub added : List Point → Point → List Point
+unfolding isNew
+added ring p = cond (isNew ring p) (ring ++ p ∷ []) ring
 
 -- the ring after the first n points of a segment
 unfoldable pub extended : List Point → Bool → List Float → ℕ → List Point
@@ -149,11 +153,15 @@ closedUp ring = cond (closing ring) (take (length ring - 1) ring) ring
 
 -- ---- its area: the sum of a.x b.y - b.x a.y over its sides from a to b, twice the area
 
+-- the place after i on a ring of n: the first after the last
+unfoldable pub nextOn : ℕ → ℕ → ℕ
+nextOn n i = cond (eqb (i + 1) n) 0 (i + 1)
+
 unfoldable pub sideAt : List Point → ℕ → Float
-unfolding origin
+unfolding origin nextOn
 sideAt ring i =
     let a = getD ring i origin in
-    let b = getD ring (cond (eqb (suc i) (length ring)) 0 (suc i)) origin in
+    let b = getD ring (nextOn (length ring) i) origin in
     a .x ⊗ b .y ⊖ b .x ⊗ a .y
 
 -- the sides 0 to n
@@ -180,9 +188,14 @@ unfoldable pub turnedOf : List Point → Bool
 unfolding areaOf lt
 turnedOf ring = lt (areaOf ring) 0f
 
+-- the points of a ring from the front, or from the back
+unfoldable pub reversedAt : Bool → List Point → ℕ → List Point
+unfolding placeFrom origin
+reversedAt back ring i = getD ring (placeFrom back (length ring) i) origin ∷ []
+
 unfoldable pub reversed : Bool → List Point → List Point
-unfolding gather placeFrom origin
-reversed back ring = gather (λ i. getD ring (placeFrom back (length ring) i) origin ∷ []) (length ring)
+unfolding gather reversedAt
+reversed back ring = gather (reversedAt back ring) (length ring)
 
 -- the coordinates of a list of points
 unfoldable pub flat : List Point → List Float

@@ -29,7 +29,7 @@ pub record Holds (blank memory : List Float) (ring : List Point) (h : Held) : Ty
 
 -- the ring of the first k segments, the empty ones among them passed over
 pub record Joins (ws : List ℕ) (xs blank memory : List Float) (k : ℕ) (j : Joined) : Type 0 where
-  pub holds : Holds blank memory (joined ws xs (length (solid ws k)) .ring) (record { count = j .count; last = j .last })
+  pub holds : Holds blank memory (joined ws xs (length (solid ws k)) .ring) (j .held)
   pub solids : j .segments ≡ length (solid ws k)
   pub gap : j .gap ≡ joined ws xs (length (solid ws k)) .gap
 

@@ -19,6 +19,8 @@ ghost use Rattle.shape.specs.Outline.{
   finalOf,
   solid,
   segmentOf,
+  lastOf,
+  isNew,
   added,
   extended,
   wholeLine,
@@ -28,6 +30,7 @@ ghost use Rattle.shape.specs.Outline.{
   turnsAt,
   gapAt,
   closedUp,
+  nextOn,
   sideAt,
   areaOf,
   reversed,
@@ -68,10 +71,9 @@ struct Held {
     last: Point,
 }
 
-// The same, with how many segments it is made of and the greatest gap between them.
+// The ring so far, with how many segments it is made of and the greatest gap between them.
 struct Joined {
-    count: usize,
-    last: Point,
+    held: Held,
     segments: usize,
     gap: f32,
 }
@@ -203,7 +205,7 @@ fn turns_alone(segments: &[u32], points: &[f32], s: &[f32], k: usize) -> bool
 fn turn_at(segments: &[u32], points: &[f32], s: &[f32], j: Joined, k: usize) -> Turn
     requires { ⌜ Sane (now segments) (now points) ⌝ }
     requires { ⌜ (k < length (now segments) / 2) × (startOf 2 0 (now segments) k < endOf 2 0 (now segments) k) × (j .segments ≡ length (solid (now segments) k)) × (now s ≡ segmentOf (now segments) (now points) k) ⌝ }
-    ensures { λ r. ⌜ (r .back ≡ turnsAt (now (segments .entry)) (now (points .entry)) (j .segments) (j .last)) × (r .gap ≡ gapAt (now (segments .entry)) (now (points .entry)) (j .segments) (j .last) (j .gap)) ⌝ }
+    ensures { λ r. ⌜ (r .back ≡ turnsAt (now (segments .entry)) (now (points .entry)) (j .segments) (j .held .last)) × (r .gap ≡ gapAt (now (segments .entry)) (now (points .entry)) (j .segments) (j .held .last) (j .gap)) ⌝ }
 {
     if j.segments == 0 {
         return Turn {
@@ -211,7 +213,8 @@ fn turn_at(segments: &[u32], points: &[f32], s: &[f32], j: Joined, k: usize) -> 
             gap: j.gap,
         };
     }
-    turn_later(j.last, j.gap, s)
+    let held = j.held;
+    turn_later(held.last, j.gap, s)
 }
 
 // ---- joining
@@ -227,21 +230,29 @@ fn put_point(out: &mut [f32], at: usize, p: Point) -> usize
     at + 3
 }
 
-// A point is added if it is more than 1e-3 from the last.
+// Is a point the first of all, or more than 1e-3 from the last?
+fn is_new(h: Held, p: Point) -> bool
+    ensures { λ r. ⌜ ((ring : List Point) → h .count ≡ length ring → h .last ≡ lastOf ring → r ≡ isNew ring p) ⌝ }
+{
+    if h.count == 0 {
+        return true;
+    }
+    apart(p, h.last)
+}
+
+// A point, if it is new.
 fn add_point(line: &mut [f32], h: Held, p: Point) -> Held
     requires { ⌜ 3 * h .count + 3 ≤ length (now line) ⌝ }
     ensures { λ r. ⌜ ((blank : List Float) (ring : List Point) → Holds blank (now (line .entry)) ring h → Holds blank (now (line .exit)) (added ring p) r) × (r .count ≤ h .count + 1) ⌝ }
 {
-    if h.count != 0 {
-        if !apart(p, h.last) {
-            return h;
-        }
+    if is_new(h, p) {
+        put_point(line, 3 * h.count, p);
+        return Held {
+            count: h.count + 1,
+            last: p,
+        };
     }
-    put_point(line, 3 * h.count, p);
-    Held {
-        count: h.count + 1,
-        last: p,
-    }
+    h
 }
 
 // The points of a segment, from its start or its end.
@@ -263,8 +274,8 @@ fn append(s: &[f32], back: bool, line: &mut [f32], from: Held) -> Held
 // Segment k, unless it is empty. It is passed on as its part of the list of points.
 fn join_step(segments: &[u32], points: &[f32], line: &mut [f32], j: Joined, k: usize) -> Joined
     requires { ⌜ Sane (now segments) (now points) ⌝ }
-    requires { ⌜ (k < length (now segments) / 2) × (length (now line) ≡ 12288) × (j .count ≤ lastEnd 2 0 (now segments) k) × (j .segments ≡ length (solid (now segments) k)) ⌝ }
-    ensures { λ r. ⌜ ((blank : List Float) → Joins (now (segments .entry)) (now (points .entry)) blank (now (line .entry)) k j → Joins (now (segments .entry)) (now (points .entry)) blank (now (line .exit)) (k + 1) r) × (r .count ≤ lastEnd 2 0 (now (segments .entry)) (k + 1)) ⌝ }
+    requires { ⌜ (k < length (now segments) / 2) × (length (now line) ≡ 12288) × (j .held .count ≤ lastEnd 2 0 (now segments) k) × (j .segments ≡ length (solid (now segments) k)) ⌝ }
+    ensures { λ r. ⌜ ((blank : List Float) → Joins (now (segments .entry)) (now (points .entry)) blank (now (line .entry)) k j → Joins (now (segments .entry)) (now (points .entry)) blank (now (line .exit)) (k + 1) r) × (r .held .count ≤ lastEnd 2 0 (now (segments .entry)) (k + 1)) ⌝ }
 {
     let a = record_word(segments, 2, k, 0);
     let e = record_word(segments, 2, k, 1);
@@ -274,11 +285,10 @@ fn join_step(segments: &[u32], points: &[f32], line: &mut [f32], j: Joined, k: u
     let from = 3 * a;
     let to = 3 * e;
     let t = turn_at(segments, points, &points[from..to], j, k);
-    let held = Held { count: j.count, last: j.last };
+    let held = j.held;
     let h = append(&points[from..to], t.back, line, held);
     Joined {
-        count: h.count,
-        last: h.last,
+        held: h,
         segments: j.segments + 1,
         gap: t.gap,
     }
@@ -288,11 +298,18 @@ fn join_step(segments: &[u32], points: &[f32], line: &mut [f32], j: Joined, k: u
 fn join(segments: &[u32], points: &[f32], line: &mut [f32]) -> Joined
     requires { ⌜ Sane (now segments) (now points) ⌝ }
     requires { ⌜ length (now line) ≡ 12288 ⌝ }
-    ensures { λ r. ⌜ Joins (now (segments .entry)) (now (points .entry)) (now (line .entry)) (now (line .exit)) (length (now (segments .entry)) / 2) r × (r .count ≤ 4096) ⌝ }
+    ensures { λ r. ⌜ Joins (now (segments .entry)) (now (points .entry)) (now (line .entry)) (now (line .exit)) (length (now (segments .entry)) / 2) r × (r .held .count ≤ 4096) ⌝ }
 {
-    let mut j = Joined {
+    let none = Held {
         count: 0,
-        last: Point { x: 0.0, y: 0.0, z: 0.0 },
+        last: Point {
+            x: 0.0,
+            y: 0.0,
+            z: 0.0,
+        },
+    };
+    let mut j = Joined {
+        held: none,
         segments: 0,
         gap: 0.0,
     };
@@ -320,13 +337,21 @@ fn open_count(ring: &[f32]) -> usize
     n
 }
 
-// Side i of a ring of n: from point i to the next, the first after the last.
+// The place after i on a ring of n: the first after the last.
+fn next_on(n: usize, i: usize) -> usize
+    requires { ⌜ i < 2 ^ 60 ⌝ }
+    ensures { λ r. ⌜ (r ≡ nextOn n i) × (r ≤ 2 ^ 60) ⌝ }
+{
+    if i + 1 == n { 0 } else { i + 1 }
+}
+
+// Side i of a ring of n: from point i to the next.
 fn side_at(ring: &[f32], n: usize, i: usize) -> f32
     requires { ⌜ (i < 2 ^ 60) × (n ≡ length (now ring) / 3) ⌝ }
     ensures { λ r. ⌜ ((line : List Point) → now (ring .entry) ≡ flat line → r ≡ sideAt line i) ⌝ }
 {
     let a = point_at(ring, i);
-    let b = point_at(ring, if i + 1 == n { 0 } else { i + 1 });
+    let b = point_at(ring, next_on(n, i));
     a.x * b.y - b.x * a.y
 }
 
@@ -414,7 +439,8 @@ fn ring_of(segments: &[u32], points: &[f32], out: &mut [f32]) -> OutlineAnswer
 {
     let mut memory = [0.0f32; 12288];
     let j = join(segments, points, &mut memory);
-    let size = 3 * j.count;
+    let held = j.held;
+    let size = 3 * held.count;
     let dropped = segments.len() / 2 - j.segments;
     finish(&memory[..size], j.gap, dropped, out)
 }

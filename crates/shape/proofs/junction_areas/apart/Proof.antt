@@ -5,11 +5,11 @@ use Rattle.shape.proofs.junction_areas.apart.Reads as reads
 use Rattle.shape.proofs.junction_areas.apart.Lts as lts
 use Rattle.rounding.proofs.compare.hypot_above_milli.Reads as hypot-above-milli-reads
 
--- src/junction_areas.rt:97:5
+-- src/junction_areas.rt:98:5
 hypot-above-milli-requires : tie.Need-hypot-above-milli-requires
 hypot-above-milli-requires c κs = search needs
 
--- src/junction_areas.rt:94:1
+-- src/junction_areas.rt:95:1
 returns : tie.Need-returns
 returns c = ?
 

@@ -12,39 +12,39 @@ Inv-loop s back line₀ n h₀ i₀ line h i = ?
 abbrev μ-loop : tie.MeasureT-loop
 μ-loop s back line₀ n h₀ i₀ line h i = ?
 
--- src/junction_areas.rt:255:5
+-- src/junction_areas.rt:265:5
 loop-holds : tie.Need-loop-holds Inv-loop μ-loop
 loop-holds c = ?
 
--- src/junction_areas.rt:256:29
+-- src/junction_areas.rt:266:29
 place-requires : tie.Need-place-requires Inv-loop μ-loop
 place-requires c κs = ?
 
--- src/junction_areas.rt:256:13
+-- src/junction_areas.rt:266:13
 point-at-requires : tie.Need-point-at-requires Inv-loop μ-loop
 point-at-requires c κs = ?
 
--- src/junction_areas.rt:257:9
+-- src/junction_areas.rt:267:9
 add-point-requires : tie.Need-add-point-requires Inv-loop μ-loop
 add-point-requires c κs = ?
 
--- src/junction_areas.rt:258:9
+-- src/junction_areas.rt:268:9
 add-i : tie.Need-add-i Inv-loop μ-loop
 add-i c = ?
 
--- src/junction_areas.rt:255:5
+-- src/junction_areas.rt:265:5
 loop-less : tie.Need-loop-less Inv-loop μ-loop
 loop-less c = ?
 
--- src/junction_areas.rt:255:5
+-- src/junction_areas.rt:265:5
 loop-again : tie.Need-loop-again Inv-loop μ-loop
 loop-again c = ?
 
--- src/junction_areas.rt:248:1
+-- src/junction_areas.rt:258:1
 same-length : tie.Need-same-length Inv-loop μ-loop
 same-length c = ?
 
--- src/junction_areas.rt:248:1
+-- src/junction_areas.rt:258:1
 returns : tie.Need-returns Inv-loop μ-loop
 returns c = ?
 

@@ -6,15 +6,15 @@ use Rattle.shape.proofs.junction_areas.final_point.Lts as lts
 use Rattle.shape.proofs.junction_areas.before_end.Reads as before-end-reads
 use Rattle.shape.proofs.lists.point_at.Reads as point-at-reads
 
--- src/junction_areas.rt:140:17
+-- src/junction_areas.rt:141:17
 before-end-requires : tie.Need-before-end-requires
 before-end-requires c κs = search needs
 
--- src/junction_areas.rt:140:5
+-- src/junction_areas.rt:141:5
 point-at-requires : tie.Need-point-at-requires
 point-at-requires c κs = search needs
 
--- src/junction_areas.rt:137:1
+-- src/junction_areas.rt:138:1
 returns : tie.Need-returns
 returns c = ?
 

@@ -5,11 +5,11 @@ use Rattle.shape.proofs.junction_areas.meets.Reads as reads
 use Rattle.shape.proofs.junction_areas.meets.Lts as lts
 use Rattle.rounding.proofs.compare.hypot_at_most_milli.Reads as hypot-at-most-milli-reads
 
--- src/junction_areas.rt:104:5
+-- src/junction_areas.rt:105:5
 hypot-at-most-milli-requires : tie.Need-hypot-at-most-milli-requires
 hypot-at-most-milli-requires c κs = search needs
 
--- src/junction_areas.rt:101:1
+-- src/junction_areas.rt:102:1
 returns : tie.Need-returns
 returns c = ?
 

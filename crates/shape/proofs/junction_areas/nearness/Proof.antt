@@ -6,23 +6,23 @@ use Rattle.shape.proofs.junction_areas.nearness.Lts as lts
 use Rattle.rounding.proofs.extremes.min32.Reads as min32-reads
 use Rattle.shape.proofs.junction_areas.reach.Reads as reach-reads
 
--- src/junction_areas.rt:111:31
+-- src/junction_areas.rt:112:31
 reach-requires : tie.Need-reach-requires
 reach-requires c κs = search needs
 
--- src/junction_areas.rt:111:11
+-- src/junction_areas.rt:112:11
 min32-requires : tie.Need-min32-requires
 min32-requires c κs = search needs
 
--- src/junction_areas.rt:111:45
+-- src/junction_areas.rt:112:45
 reach-requires-2 : tie.Need-reach-requires-2
 reach-requires-2 c κs = search needs
 
--- src/junction_areas.rt:111:5
+-- src/junction_areas.rt:112:5
 min32-requires-2 : tie.Need-min32-requires-2
 min32-requires-2 c κs = search needs
 
--- src/junction_areas.rt:108:1
+-- src/junction_areas.rt:109:1
 returns : tie.Need-returns
 returns c = ?
 

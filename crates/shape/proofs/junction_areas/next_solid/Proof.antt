@@ -10,35 +10,35 @@ Inv-loop segments k n i₀ i = ?
 abbrev μ-loop : tie.MeasureT-loop
 μ-loop segments k n i₀ i = ?
 
--- src/junction_areas.rt:178:5
+-- src/junction_areas.rt:179:5
 loop-holds : tie.Need-loop-holds Inv-loop μ-loop
 loop-holds c = ?
 
--- src/junction_areas.rt:179:12
+-- src/junction_areas.rt:180:12
 record-word-requires : tie.Need-record-word-requires Inv-loop μ-loop
 record-word-requires c κs = ?
 
--- src/junction_areas.rt:179:45
+-- src/junction_areas.rt:180:45
 record-word-requires-2 : tie.Need-record-word-requires-2 Inv-loop μ-loop
 record-word-requires-2 c κs = ?
 
--- src/junction_areas.rt:180:13
+-- src/junction_areas.rt:181:13
 returns : tie.Need-returns Inv-loop μ-loop
 returns c = ?
 
--- src/junction_areas.rt:182:9
+-- src/junction_areas.rt:183:9
 add-i : tie.Need-add-i Inv-loop μ-loop
 add-i c = ?
 
--- src/junction_areas.rt:178:5
+-- src/junction_areas.rt:179:5
 loop-less : tie.Need-loop-less Inv-loop μ-loop
 loop-less c = ?
 
--- src/junction_areas.rt:178:5
+-- src/junction_areas.rt:179:5
 loop-again : tie.Need-loop-again Inv-loop μ-loop
 loop-again c = ?
 
--- src/junction_areas.rt:171:1
+-- src/junction_areas.rt:172:1
 returns-2 : tie.Need-returns-2 Inv-loop μ-loop
 returns-2 c = ?
 

@@ -4,47 +4,47 @@ use Rattle.shape.proofs.junction_areas.put_point.Tie as tie
 use Rattle.shape.proofs.junction_areas.put_point.Reads as reads
 use Rattle.shape.proofs.junction_areas.put_point.Lts as lts
 
--- src/junction_areas.rt:224:5
+-- src/junction_areas.rt:226:5
 mul-out : tie.Need-mul-out
 mul-out c = search needs
 
--- src/junction_areas.rt:224:5
+-- src/junction_areas.rt:226:5
 slice-write-out : tie.Need-slice-write-out
 slice-write-out c = search needs
 
--- src/junction_areas.rt:225:9
+-- src/junction_areas.rt:227:9
 add-out : tie.Need-add-out
 add-out c = search needs
 
--- src/junction_areas.rt:225:5
+-- src/junction_areas.rt:227:5
 mul-out-2 : tie.Need-mul-out-2
 mul-out-2 c = search needs
 
--- src/junction_areas.rt:225:5
+-- src/junction_areas.rt:227:5
 slice-write-out-2 : tie.Need-slice-write-out-2
 slice-write-out-2 c = ?
 
--- src/junction_areas.rt:226:9
+-- src/junction_areas.rt:228:9
 add-out-2 : tie.Need-add-out-2
 add-out-2 c = search needs
 
--- src/junction_areas.rt:226:5
+-- src/junction_areas.rt:228:5
 mul-out-3 : tie.Need-mul-out-3
 mul-out-3 c = search needs
 
--- src/junction_areas.rt:226:5
+-- src/junction_areas.rt:228:5
 slice-write-out-3 : tie.Need-slice-write-out-3
 slice-write-out-3 c = ?
 
--- src/junction_areas.rt:227:5
+-- src/junction_areas.rt:229:5
 add-result : tie.Need-add-result
 add-result c = search needs
 
--- src/junction_areas.rt:220:1
+-- src/junction_areas.rt:222:1
 same-length : tie.Need-same-length
 same-length c = search needs
 
--- src/junction_areas.rt:220:1
+-- src/junction_areas.rt:222:1
 returns : tie.Need-returns
 returns c = ?
 

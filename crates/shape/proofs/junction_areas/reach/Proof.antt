@@ -5,11 +5,11 @@ use Rattle.shape.proofs.junction_areas.reach.Reads as reads
 use Rattle.shape.proofs.junction_areas.reach.Lts as lts
 use Rattle.rounding.proofs.hypot.hypot.Reads as hypot-reads
 
--- src/junction_areas.rt:90:5
+-- src/junction_areas.rt:91:5
 hypot-requires : tie.Need-hypot-requires
 hypot-requires c κs = search needs
 
--- src/junction_areas.rt:87:1
+-- src/junction_areas.rt:88:1
 returns : tie.Need-returns
 returns c = ?
 

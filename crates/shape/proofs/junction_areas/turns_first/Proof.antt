@@ -7,31 +7,31 @@ use Rattle.shape.proofs.junction_areas.final_point.Reads as final-point
 use Rattle.shape.proofs.junction_areas.first_point.Reads as first-point-reads
 use Rattle.shape.proofs.junction_areas.nearness.Reads as nearness-reads
 
--- src/junction_areas.rt:147:9
+-- src/junction_areas.rt:148:9
 first-point-requires : tie.Need-first-point-requires
 first-point-requires c κs = search needs
 
--- src/junction_areas.rt:148:9
+-- src/junction_areas.rt:149:9
 final-point-requires : tie.Need-final-point-requires
 final-point-requires c κs = search needs
 
--- src/junction_areas.rt:149:14
+-- src/junction_areas.rt:150:14
 first-point-requires-2 : tie.Need-first-point-requires-2
 first-point-requires-2 c κs = search needs
 
--- src/junction_areas.rt:149:5
+-- src/junction_areas.rt:150:5
 nearness-requires : tie.Need-nearness-requires
 nearness-requires c κs = search needs
 
--- src/junction_areas.rt:149:47
+-- src/junction_areas.rt:150:47
 final-point-requires-2 : tie.Need-final-point-requires-2
 final-point-requires-2 c κs = search needs
 
--- src/junction_areas.rt:149:38
+-- src/junction_areas.rt:150:38
 nearness-requires-2 : tie.Need-nearness-requires-2
 nearness-requires-2 c κs = search needs
 
--- src/junction_areas.rt:144:1
+-- src/junction_areas.rt:145:1
 returns : tie.Need-returns
 returns c = ?
 
