@@ -55,6 +55,7 @@ use Rattle.shape.specs.Outline.{
 }
 use Rattle.shape.specs.OutlineSteps.{Sane, Holds, Joins}
 use Rattle.shape.specs.Laws.Gather.{gather-next, gather-fits}
+use Rattle.shape.specs.Laws.Lists.{Sound, sound}
 use Rattle.shape.specs.Laws.Memory.{sets-append, take-sets-front}
 
 -- ---- the coordinates of a list of points
@@ -300,3 +301,45 @@ area-next ring (suc i) h =
 pub reversed-next : (back : Bool) (ring : List Point) (i : ℕ)
     → flat (gather (reversedAt back ring) (i + 1)) ≡ flat (gather (reversedAt back ring) i) ++ flat (reversedAt back ring i)
 reversed-next back ring i = rw (gather-next (reversedAt back ring) i) (flat-append (gather (reversedAt back ring) i) (reversedAt back ring i))
+
+-- ---- lists that are sound
+
+-- a check that finds nothing: its first test fails, and what comes after finds nothing
+passed : (b : Bool) (n p : ℕ) (after : Fault) → refuse b n p after ≡ fine → b ≡ false
+unfolding refuse
+passed false n p after e = refl
+passed true n p after e = absurd (let z : _≡_ {A = ℕ} 0 1 = cc in omega arith)
+
+rest : (b : Bool) (n p : ℕ) (after : Fault) → refuse b n p after ≡ fine → after ≡ fine
+unfolding refuse
+rest false n p after e = e
+rest true n p after e = absurd (let z : _≡_ {A = ℕ} 0 1 = cc in omega arith)
+
+pub sane : (ws : List ℕ) (xs : List Float) → outlineFault ws xs ≡ fine → Sane ws xs
+unfolding outlineFault longer
+sane ws xs e₁ =
+    let e₂ = rest _ _ _ _ e₁ in
+    let e₃ = rest _ _ _ _ e₂ in
+    let e₄ = rest _ _ _ _ e₃ in
+    record {
+      few = ltb-false 512 (length ws) (passed _ _ _ _ e₁);
+      small = ltb-false 12288 (length xs) (passed _ _ _ _ e₂);
+      runs = passed _ _ _ _ e₄;
+    }
+
+module _ {ws : List ℕ} {xs : List Float} (s : Sane ws xs) (k : ℕ) (h : k < length ws / 2) where
+  pub run-sound : Sound 2 0 ws (length xs / 3) k
+  run-sound = sound 2 0 ws (length xs / 3) (length ws / 2) k h (s .runs)
+
+  -- segment k as a part of the list of points
+  pub segment-part : (a e : ℕ) → a ≡ startOf 2 0 ws k → e ≡ endOf 2 0 ws k → take (3 * e - 3 * a) (drop (3 * a) xs) ≡ segmentOf ws xs k
+  unfolding segmentOf runOf
+  segment-part a e p q = rw (p, q)
+
+  pub segment-count : length (segmentOf ws xs k) ≡ 3 * endOf 2 0 ws k - 3 * startOf 2 0 ws k
+  unfolding segmentOf runOf
+  segment-count = let r = run-sound in simp (length-take, length-drop) (omega arith)
+
+pub last-end-next : (ws : List ℕ) (k : ℕ) → lastEnd 2 0 ws (k + 1) ≡ endOf 2 0 ws k
+unfolding lastEnd
+last-end-next ws k = rw add-one

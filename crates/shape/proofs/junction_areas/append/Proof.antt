@@ -1,52 +1,76 @@
+-- `shape::junction_areas::append` meets its contract: after i turns the ring is the one extended by i points. Assumes nothing.
+use mathlib.Core.Path.{_≡_, refl, ap, _∙_}
+use mathlib.Core.Bool.{Bool}
+use mathlib.Core.List.{List}
+use Prim.Native.Nat.{ℕ, _+_, _-_, _/_, _≤_}
+use native.Mathlib.Omega.{arith}
+use denote.Ref.{now}
+use lib.Ieee.{Float}
+use lib.ListN.{length}
+use Rattle.vector.specs.declared.coords.Point.{Point}
+use Rattle.shape.specs.declared.junction_areas.Held.{Held}
+use Rattle.shape.specs.Lists.{pointAt}
+use Rattle.shape.specs.Outline.{placeFrom, pointFrom, extended}
+use Rattle.shape.specs.OutlineSteps.{Holds}
+use Rattle.shape.proofs.Joining.{extended-next}
 use Rattle.shape.proofs.junction_areas.append.Statement.{statement}
 use Rattle.shape.proofs.junction_areas.append.Tie as tie
-use Rattle.shape.proofs.junction_areas.append.Reads as reads
-use Rattle.shape.proofs.junction_areas.append.Lts as lts
-use Rattle.shape.proofs.junction_areas.add_point.Reads as add-point-reads
-use Rattle.shape.proofs.junction_areas.place.Reads as place-reads
-use Rattle.shape.proofs.lists.point_at.Reads as point-at-reads
+
+-- what i points of the segment make of whatever ring there was
+record Inv (s : List Float) (back : Bool) (line₀ line : List Float) (from h : Held) (n i : ℕ) : Type 0 where
+  holds : (blank : List Float) (ring : List Point) → Holds blank line₀ ring from → Holds blank line (extended ring back s i) h
+  few : h .count ≤ from .count + i
+  most : i ≤ n
+  long : length line ≡ length line₀
 
 abbrev Inv-loop : tie.InvT-loop
-Inv-loop s back line₀ n h₀ i₀ line h i = ?
+Inv-loop s back line₀ n h₀ i₀ line h i = Inv s back line₀ line h₀ h n i
 
 abbrev μ-loop : tie.MeasureT-loop
-μ-loop s back line₀ n h₀ i₀ line h i = ?
+μ-loop s back line₀ n h₀ i₀ line h i = n - i
 
--- src/junction_areas.rt:265:5
 loop-holds : tie.Need-loop-holds Inv-loop μ-loop
-loop-holds c = ?
+unfolding extended
+loop-holds c = record { holds = λ blank ring h. h; few = omega arith; most = omega arith; long = refl }
 
--- src/junction_areas.rt:266:29
 place-requires : tie.Need-place-requires Inv-loop μ-loop
-place-requires c κs = ?
+place-requires c κs = omega arith
 
--- src/junction_areas.rt:266:13
 point-at-requires : tie.Need-point-at-requires Inv-loop μ-loop
-point-at-requires c κs = ?
+unfolding placeFrom
+point-at-requires c κs = omega arith
 
--- src/junction_areas.rt:267:9
 add-point-requires : tie.Need-add-point-requires Inv-loop μ-loop
-add-point-requires c κs = ?
+add-point-requires c κs = omega arith
 
--- src/junction_areas.rt:268:9
 add-i : tie.Need-add-i Inv-loop μ-loop
-add-i c = ?
+add-i c = omega arith
 
--- src/junction_areas.rt:265:5
 loop-less : tie.Need-loop-less Inv-loop μ-loop
-loop-less c = ?
+loop-less c = omega arith
 
--- src/junction_areas.rt:265:5
 loop-again : tie.Need-loop-again Inv-loop μ-loop
-loop-again c = ?
+unfolding pointFrom
+loop-again c = 
+    let a = c .before .before .before .before .before .before .before .before .before .before .args in
+    let at = c .before .before .before .before .before .before .before .loop in
+    let p = c .before .before .before .before .point-at .ensures ∙ ap (pointAt (now (a .s))) (c .before .before .before .before .before .place .ensures) in
+    record {
+      holds = λ blank ring h. rw (extended-next ring (a .back) (now (a .s)) (at .i), ← p) (c .before .before .add-point .ensures .0 blank (extended ring (a .back) (now (a .s)) (at .i)) (at .inv .holds blank ring h));
+      few = omega (arith, c .before .before .add-point .ensures .1, at .inv .few);
+      most = omega arith;
+      long = omega (arith, at .inv .long);
+    }
 
--- src/junction_areas.rt:258:1
 same-length : tie.Need-same-length Inv-loop μ-loop
-same-length c = ?
+same-length c = c .before .loop .inv .long
 
--- src/junction_areas.rt:258:1
 returns : tie.Need-returns Inv-loop μ-loop
-returns c = ?
+returns c = 
+    let a = c .before .before .before .before .args in
+    let at = c .before .loop in
+    let e : at .i ≡ length (now (a .s)) / 3 = omega (arith, at .inv .most) in
+    (rw e at (at .inv .holds), rw e at (at .inv .few))
 
 pub append-spec : {M : Type 1} → statement M
 append-spec =

@@ -1,46 +1,43 @@
+-- `shape::junction_areas::next_solid` meets its contract: the segments passed are empty. Assumes nothing.
+use mathlib.Core.Path.{_≡_, refl, _∙_}
+use Prim.Native.Nat.{_-_, _≤_}
+use native.Mathlib.Omega.{arith}
+use denote.Ref.{now}
+use lib.ListN.{length}
+use Rattle.shape.specs.Outline.{solid}
+use Rattle.shape.proofs.Joining.{solid-same}
 use Rattle.shape.proofs.junction_areas.next_solid.Statement.{statement}
 use Rattle.shape.proofs.junction_areas.next_solid.Tie as tie
-use Rattle.shape.proofs.junction_areas.next_solid.Reads as reads
-use Rattle.shape.proofs.junction_areas.next_solid.Lts as lts
-use Rattle.shape.proofs.lists.record_word.Reads as record-word-reads
 
 abbrev Inv-loop : tie.InvT-loop
-Inv-loop segments k n i₀ i = ?
+Inv-loop segments k n i₀ i = (k ≤ i) × (i ≤ n) × (length (solid segments i) ≡ length (solid segments k))
 
 abbrev μ-loop : tie.MeasureT-loop
-μ-loop segments k n i₀ i = ?
+μ-loop segments k n i₀ i = n - i
 
--- src/junction_areas.rt:179:5
 loop-holds : tie.Need-loop-holds Inv-loop μ-loop
-loop-holds c = ?
+loop-holds c = (omega arith, omega arith, refl)
 
--- src/junction_areas.rt:180:12
 record-word-requires : tie.Need-record-word-requires Inv-loop μ-loop
-record-word-requires c κs = ?
+record-word-requires c κs = omega arith
 
--- src/junction_areas.rt:180:45
 record-word-requires-2 : tie.Need-record-word-requires-2 Inv-loop μ-loop
-record-word-requires-2 c κs = ?
+record-word-requires-2 c κs = omega arith
 
--- src/junction_areas.rt:181:13
 returns : tie.Need-returns Inv-loop μ-loop
-returns c = ?
+returns c = ((omega arith, omega arith, c .before .before .before .before .loop .inv .2), λ h. rw (← (c .before .before .record-word .ensures .0), ← (c .before .record-word2 .ensures .0)) (c .if1 .taken))
 
--- src/junction_areas.rt:183:9
 add-i : tie.Need-add-i Inv-loop μ-loop
-add-i c = ?
+add-i c = omega arith
 
--- src/junction_areas.rt:179:5
 loop-less : tie.Need-loop-less Inv-loop μ-loop
-loop-less c = ?
+loop-less c = omega arith
 
--- src/junction_areas.rt:179:5
 loop-again : tie.Need-loop-again Inv-loop μ-loop
-loop-again c = ?
+loop-again c = (omega arith, omega arith, solid-same (now (c .before .before .before .before .before .before .args .segments)) (c .before .before .before .before .loop .i) (rw (← (c .before .before .record-word .ensures .0), ← (c .before .record-word2 .ensures .0)) (c .if1 .left)) ∙ c .before .before .before .before .loop .inv .2)
 
--- src/junction_areas.rt:172:1
 returns-2 : tie.Need-returns-2 Inv-loop μ-loop
-returns-2 c = ?
+returns-2 c = ((omega arith, omega arith, c .before .loop .inv .2), λ h. absurd (omega arith))
 
 pub next-solid-spec : {M : Type 1} → statement M
 next-solid-spec =

@@ -1,39 +1,47 @@
+-- `shape::junction_areas::open_count` meets its contract. Assumes nothing.
+use mathlib.Core.Path.{_≡_, sym, ap, _∙_}
+use mathlib.Core.Bool.{true, false}
+use mathlib.Core.List.{List}
+use Prim.Native.Nat.{_/_}
+use native.Mathlib.Omega.{arith}
+use denote.Ref.{now}
+use lib.Ieee.{Float, le}
+use lib.ListN.{length}
+use Rattle.rounding.specs.Thresholds.{milli}
+use Rattle.shape.specs.Outline.{reachOf, firstOf, finalOf}
+use Rattle.shape.proofs.Joining.{flat-count, closing-is, closing-few, count-closed, count-open}
 use borrow.Author.Needs.{needs}
 use Rattle.shape.proofs.junction_areas.open_count.Statement.{statement}
 use Rattle.shape.proofs.junction_areas.open_count.Tie as tie
-use Rattle.shape.proofs.junction_areas.open_count.Reads as reads
-use Rattle.shape.proofs.junction_areas.open_count.Lts as lts
-use Rattle.shape.proofs.junction_areas.final_point.Reads as final-point-reads
-use Rattle.shape.proofs.junction_areas.first_point.Reads as first-point-reads
-use Rattle.shape.proofs.junction_areas.meets.Reads as meets-reads
 
--- src/junction_areas.rt:332:18
 first-point-requires : tie.Need-first-point-requires
 first-point-requires c κs = search needs
 
--- src/junction_areas.rt:332:37
 final-point-requires : tie.Need-final-point-requires
 final-point-requires c κs = search needs
 
--- src/junction_areas.rt:332:12
 meets-requires : tie.Need-meets-requires
 meets-requires c κs = search needs
 
--- src/junction_areas.rt:333:20
 sub-result : tie.Need-sub-result
 sub-result c = search needs
 
--- src/junction_areas.rt:333:13
 returns : tie.Need-returns
-returns c = ?
+returns c = (λ line e.
+    let a = now (c .before .before .before .before .before .before .args .ring) in
+    let h : le (reachOf (firstOf a) (finalOf a)) milli ≡ true = rw (← (c .before .before .before .first-point .ensures), ← (c .before .before .final-point .ensures)) (sym (c .before .meets .ensures) ∙ c .if2 .taken) in
+    let n : length a / 3 ≡ length line = ap (λ (l : List Float). length l / 3) e ∙ flat-count line in
+    let k = closing-is a line true e (c .before .before .before .before .if1 .taken) h in rw n (count-closed line k), omega arith)
 
--- src/junction_areas.rt:326:1
 returns-2 : tie.Need-returns-2
-returns-2 c = ?
+returns-2 c = (λ line e.
+    let a = now (c .before .before .before .before .before .before .args .ring) in
+    let h : le (reachOf (firstOf a) (finalOf a)) milli ≡ false = rw (← (c .before .before .before .first-point .ensures), ← (c .before .before .final-point .ensures)) (sym (c .before .meets .ensures) ∙ c .if2 .left) in
+    let n : length a / 3 ≡ length line = ap (λ (l : List Float). length l / 3) e ∙ flat-count line in
+    let k = closing-is a line false e (c .before .before .before .before .if1 .taken) h in rw n (count-open line k), omega arith)
 
--- src/junction_areas.rt:326:1
 returns-3 : tie.Need-returns-3
-returns-3 c = ?
+returns-3 c = (λ line e. let n : length (now (c .before .before .args .ring)) / 3 ≡ length line = ap (λ (l : List Float). length l / 3) e ∙ flat-count line in rw n (count-open line (closing-few line (omega arith))), omega arith)
 
 pub open-count-spec : {M : Type 1} → statement M
 open-count-spec =

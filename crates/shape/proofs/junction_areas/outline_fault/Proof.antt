@@ -1,45 +1,45 @@
+-- `shape::junction_areas::outline_fault` meets its contract: each return follows from the tests that led to it. Assumes nothing.
+use mathlib.Core.Path.{sym, _∙_}
+use borrow.Author.Tests.{lt-ltb, le-ltb, eq-eqb, ne-eqb}
+use Rattle.shape.specs.Refusal.{found, numberOf, placeOf, refuse}
+use Rattle.shape.specs.Lists.{longer, uneven}
+use Rattle.shape.specs.Outline.{outlineFault}
 use borrow.Author.Needs.{needs}
 use Rattle.shape.proofs.junction_areas.outline_fault.Statement.{statement}
 use Rattle.shape.proofs.junction_areas.outline_fault.Tie as tie
-use Rattle.shape.proofs.junction_areas.outline_fault.Reads as reads
-use Rattle.shape.proofs.junction_areas.outline_fault.Lts as lts
-use Rattle.shape.proofs.lists.any_bad.Reads as any-bad-reads
 
--- src/junction_areas.rt:408:8
 mul-if1 : tie.Need-mul-if1
 mul-if1 c = search needs
 
--- src/junction_areas.rt:409:9
 returns : tie.Need-returns
-returns c = ?
+unfolding outlineFault refuse longer uneven found numberOf placeOf
+returns c = simp (lt-ltb _ _ (c .if1 .taken))
 
--- src/junction_areas.rt:411:8
 mul-if2 : tie.Need-mul-if2
 mul-if2 c = search needs
 
--- src/junction_areas.rt:412:9
 returns-2 : tie.Need-returns-2
-returns-2 c = ?
+unfolding outlineFault refuse longer uneven found numberOf placeOf
+returns-2 c = simp (le-ltb _ _ (c .before .if1 .left), lt-ltb _ _ (c .if2 .taken))
 
--- src/junction_areas.rt:415:9
 returns-3 : tie.Need-returns-3
-returns-3 c = ?
+unfolding outlineFault refuse longer uneven found numberOf placeOf
+returns-3 c = simp (le-ltb _ _ (c .before .before .if1 .left), le-ltb _ _ (c .before .if2 .left), ne-eqb _ _ (c .if3 .taken))
 
--- src/junction_areas.rt:417:8
 any-bad-requires : tie.Need-any-bad-requires
 any-bad-requires c κs = search needs
 
--- src/junction_areas.rt:418:9
 returns-4 : tie.Need-returns-4
-returns-4 c = ?
+unfolding outlineFault refuse longer uneven found numberOf placeOf
+returns-4 c = simp (le-ltb _ _ (c .before .before .before .before .if1 .left), le-ltb _ _ (c .before .before .before .if2 .left), eq-eqb _ _ (c .before .before .if3 .left), (sym (c .before .any-bad .ensures) ∙ c .if4 .taken))
 
--- src/junction_areas.rt:421:9
 returns-5 : tie.Need-returns-5
-returns-5 c = ?
+unfolding outlineFault refuse longer uneven found numberOf placeOf
+returns-5 c = simp (le-ltb _ _ (c .before .before .before .before .before .if1 .left), le-ltb _ _ (c .before .before .before .before .if2 .left), eq-eqb _ _ (c .before .before .before .if3 .left), (sym (c .before .before .any-bad .ensures) ∙ c .before .if4 .left), ne-eqb _ _ (c .if5 .taken))
 
--- src/junction_areas.rt:405:1
 returns-6 : tie.Need-returns-6
-returns-6 c = ?
+unfolding outlineFault refuse longer uneven found numberOf placeOf
+returns-6 c = simp (le-ltb _ _ (c .before .before .before .before .before .if1 .left), le-ltb _ _ (c .before .before .before .before .if2 .left), eq-eqb _ _ (c .before .before .before .if3 .left), (sym (c .before .before .any-bad .ensures) ∙ c .before .if4 .left), eq-eqb _ _ (c .if5 .left))
 
 pub outline-fault-spec : {M : Type 1} → statement M
 outline-fault-spec =
