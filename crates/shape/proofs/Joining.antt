@@ -2,8 +2,8 @@
 use mathlib.Core.Path.{_≡_, refl, sym, ap, _∙_}
 use mathlib.Core.Bool.{Bool, true, false, cond, _&&_}
 use mathlib.Core.List.{List, [], _∷_, _++_}
-use Prim.Native.Nat.{ℕ, zero, suc, _+_, _-_, _*_, _/_, _≤_, _<_}
-use native.Mathlib.Nat.{zero-add, add-zero}
+use Prim.Native.Nat.{ℕ, zero, suc, _+_, _-_, _*_, _/_, _≤_, _<_, min}
+use native.Mathlib.Nat.{zero-add, add-zero, one-mul}
 use native.Mathlib.Decide.{decLt}
 use native.Mathlib.Numerals.{add-one, sub-one}
 use native.Mathlib.Omega.{arith}
@@ -11,16 +11,19 @@ use borrow.Author.Tests.{lt-ltb, le-ltb, ltb-false}
 use lib.Dec.{ltb}
 use lib.Ieee.{Float, nan, lt, le}
 use lib.ListN.{length, getD, take, drop, length-append, length-take, length-drop, List·getD-append}
-use lib.Seq.{sets, getD-append-seam}
+use lib.Seq.{sets, take-length, getD-append-seam}
 use Rattle.rounding.specs.Extremes.{maxOf}
-use Rattle.rounding.specs.Thresholds.{milli}
+use Rattle.rounding.specs.Thresholds.{milli, tenth}
 use Rattle.vector.specs.Single.{_⊕_, 0f}
 use Rattle.vector.specs.declared.coords.Point.{Point}
 use Rattle.shape.specs.declared.junction_areas.Held.{Held}
 use Rattle.shape.specs.declared.junction_areas.Joined.{Joined}
+use Rattle.shape.specs.declared.junction_areas.OutlineAnswer.the-variants.{Made, Refused}
+use Rattle.shape.specs.declared.refusal.Refusal.{Refusal}
+use Rattle.shape.specs.declared.refusal.Refusal.the-variants.{ShortOutput}
 use Rattle.shape.specs.Gather.{gather, any}
 use Rattle.shape.specs.Memory.{Put}
-use Rattle.shape.specs.Refusal.{Fault, fine, fault, refuse}
+use Rattle.shape.specs.Refusal.{Fault, fine, fault, refuse, judge, leaves, numberOf, placeOf}
 use Rattle.shape.specs.Lists.{longer, uneven, pointAt, startOf, endOf, lastEnd, runBad, runOf}
 use Rattle.shape.specs.Outline.{
   reachOf,
@@ -50,13 +53,24 @@ use Rattle.shape.specs.Outline.{
   sideAt,
   areaTo,
   reversedAt,
+  reversed,
   flat,
+  widest,
+  wholeLine,
+  droppedOf,
+  ringOf,
+  turnedOf,
+  resultOf,
+  outlineOf,
   outlineFault,
+  shortFault,
+  outlineAnswer,
+  readOutline,
 }
-use Rattle.shape.specs.OutlineSteps.{Sane, Holds, Joins}
-use Rattle.shape.specs.Laws.Gather.{gather-next, gather-fits}
+use Rattle.shape.specs.OutlineSteps.{Sane, Holds, Joins, Outlines}
+use Rattle.shape.specs.Laws.Gather.{gather-next, gather-fits, gather-even}
 use Rattle.shape.specs.Laws.Lists.{Sound, sound}
-use Rattle.shape.specs.Laws.Memory.{sets-append, take-sets-front}
+use Rattle.shape.specs.Laws.Memory.{sets-append, sets-front, take-sets-front}
 
 -- ---- the coordinates of a list of points
 
@@ -140,11 +154,11 @@ module _ {blank m : List Float} {ring : List Point} {h : Held} (holds : Holds bl
   unfolding added
   add-old e = rw e holds
 
-  -- the ring's own part of the memory
-  pub ring-part : length ring * 3 ≤ length blank → take (3 * h .count) m ≡ flat ring
-  ring-part k =
-      let e : 3 * h .count ≡ length (flat ring) = omega (arith, holds .many, flat-length ring) in
-      rw (e, holds .front) (take-sets-front (flat ring) blank (omega (arith, flat-length ring)))
+-- the ring's own part of the memory
+pub ring-part : {blank m : List Float} {ring : List Point} {h : Held} → Holds blank m ring h → 3 * h .count ≤ length blank → take (3 * h .count) m ≡ flat ring
+ring-part {blank} {m} {ring} {h} holds k =
+    let e : 3 * h .count ≡ length (flat ring) = omega (arith, holds .many, flat-length ring) in
+    rw (e, holds .front) (take-sets-front (flat ring) blank (omega arith))
 
 pub extended-next : (ring : List Point) (back : Bool) (s : List Float) (i : ℕ)
     → extended ring back s (i + 1) ≡ added (extended ring back s i) (pointFrom back s i)
@@ -197,6 +211,9 @@ module _ (ws : List ℕ) (k : ℕ) where
       let e : length (solidAt ws k) ≡ 1 = rw (lt-ltb (startOf 2 0 ws k) (endOf 2 0 ws k) l) in
       omega (arith, gather-fits (solidAt ws) k m h)
 
+  pub solid-step : length (solid ws (k + 1)) ≤ suc (length (solid ws k))
+  solid-step = elim (decLt (startOf 2 0 ws k) (endOf 2 0 ws k)) [ yes p ↦ omega (arith, solid-more p) | no p ↦ omega (arith, solid-same (omega arith)) ]
+
   -- segment k is the next of those
   pub segment-here : (xs : List Float) → k < length ws / 2 → startOf 2 0 ws k < endOf 2 0 ws k
       → segmentAt ws xs (length (solid ws k)) ≡ segmentOf ws xs k
@@ -206,6 +223,11 @@ module _ (ws : List ℕ) (k : ℕ) where
     where
       solid-one : startOf 2 0 ws k < endOf 2 0 ws k → solidAt ws k ≡ k ∷ []
       solid-one p = rw (lt-ltb (startOf 2 0 ws k) (endOf 2 0 ws k) p)
+
+pub solid-most : (ws : List ℕ) (k : ℕ) → length (solid ws k) ≤ k
+unfolding solid
+solid-most ws zero = omega arith
+solid-most ws (suc k) = omega (arith, rw (add-one k) at (solid-step ws k), solid-most ws k)
 
 module _ (ws : List ℕ) (xs : List Float) where
   turns-suc : (i : ℕ) (end : Point) → (i ≡ 0 → ⊥) → turnsAt ws xs i end ≡ turnsLater end (segmentAt ws xs i)
@@ -316,15 +338,20 @@ rest false n p after e = e
 rest true n p after e = absurd (let z : _≡_ {A = ℕ} 0 1 = cc in omega arith)
 
 pub sane : (ws : List ℕ) (xs : List Float) → outlineFault ws xs ≡ fine → Sane ws xs
-unfolding outlineFault longer
+unfolding outlineFault
 sane ws xs e₁ =
-    let e₂ = rest _ _ _ _ e₁ in
-    let e₃ = rest _ _ _ _ e₂ in
-    let e₄ = rest _ _ _ _ e₃ in
+    let runs = any (runBad 2 0 ws (length xs / 3)) (length ws / 2) in
+    let a₄ = refuse (uneven 3 xs) 2 1 fine in
+    let a₃ = refuse runs 2 0 a₄ in
+    let a₂ = refuse (uneven 2 ws) 2 0 a₃ in
+    let a₁ = refuse (longer 3 4096 xs) 1 4096 a₂ in
+    let e₂ = rest (longer 2 256 ws) 1 256 a₁ e₁ in
+    let e₃ = rest (longer 3 4096 xs) 1 4096 a₂ e₂ in
+    let e₄ = rest (uneven 2 ws) 2 0 a₃ e₃ in
     record {
-      few = ltb-false 512 (length ws) (passed _ _ _ _ e₁);
-      small = ltb-false 12288 (length xs) (passed _ _ _ _ e₂);
-      runs = passed _ _ _ _ e₄;
+      few = ltb-false 512 (length ws) (passed (longer 2 256 ws) 1 256 a₁ e₁);
+      small = ltb-false 12288 (length xs) (passed (longer 3 4096 xs) 1 4096 a₂ e₂);
+      runs = passed runs 2 0 a₄ e₄;
     }
 
 module _ {ws : List ℕ} {xs : List Float} (s : Sane ws xs) (k : ℕ) (h : k < length ws / 2) where
@@ -343,3 +370,56 @@ module _ {ws : List ℕ} {xs : List Float} (s : Sane ws xs) (k : ℕ) (h : k < l
 pub last-end-next : (ws : List ℕ) (k : ℕ) → lastEnd 2 0 ws (k + 1) ≡ endOf 2 0 ws k
 unfolding lastEnd
 last-end-next ws k = rw add-one
+
+pub last-end-small : {ws : List ℕ} {xs : List Float} → Sane ws xs → (k : ℕ) → k ≤ length ws / 2 → lastEnd 2 0 ws k ≤ 4096
+unfolding lastEnd
+last-end-small s zero h = omega arith
+last-end-small s (suc k) h = let r = run-sound s k (omega arith) in omega (arith, s .small)
+
+-- ---- the answer
+
+front : (ring : List Point) (b : Bool) → closing ring ≡ b → take (length (closedUp ring)) ring ≡ closedUp ring
+unfolding closedUp
+front ring true h = let m : min (length ring - 1) (length ring) ≡ length ring - 1 = omega arith in rw (h, length-take (length ring - 1) ring, m)
+front ring false h = rw h (take-length ring)
+
+reversed-length : (back : Bool) (ring : List Point) → length (reversed back ring) ≡ length ring
+unfolding reversed reversedAt
+reversed-length back ring = gather-even (reversedAt back ring) 1 (λ i. refl) (length ring) ∙ one-mul (length ring)
+
+pub open-part : (xs : List Float) (ring : List Point) (n : ℕ) → xs ≡ flat ring → n ≡ length (closedUp ring) → take (3 * n) xs ≡ flat (closedUp ring)
+open-part xs ring n e h = rw (e, flat-take n ring, h) (ap flat (front ring (closing ring) refl))
+
+pub widest-is : (l : Line) (xs : List Float) (gap g d : Float) (p q : Point) → xs ≡ flat (l .ring) → gap ≡ l .gap → g ≡ maxOf gap d → d ≡ reachOf p q
+    → p ≡ finalOf xs → q ≡ firstOf xs → g ≡ widest l
+unfolding widest
+widest-is l xs gap g d p q e h a b s t = rw (← (flat-final xs (l .ring) e), ← (flat-first xs (l .ring) e), ← h, ← s, ← t, ← b) a
+
+module _ (ws : List ℕ) (xs before : List Float) where
+  -- the lists are turned back
+  pub lists-refused : (r : Refusal) → outlineFault ws xs ≡ fault (numberOf r) (placeOf r) → Outlines ws xs before before (Refused r)
+  unfolding outlineAnswer judge readOutline leaves
+  lists-refused r e = record { given = rw e; memory = rw e }
+
+  -- the output is short
+  pub short-refused : (n : ℕ) → outlineFault ws xs ≡ fine → n ≡ length (ringOf ws xs) → length before < 3 * n
+      → Outlines ws xs before before (Refused (ShortOutput (3 * n)))
+  unfolding outlineAnswer judge readOutline numberOf placeOf leaves shortFault refuse
+  short-refused n e c h =
+      let t : ltb (length before) (3 * length (ringOf ws xs)) ≡ true = rw (← c) (lt-ltb (length before) (3 * n) h) in
+      record { given = rw (e, t, c); memory = rw (e, t) }
+
+  -- the call is taken
+  pub ring-made : (after : List Float) (n d : ℕ) (g : Float) (t : Bool) (q : ℕ) → outlineFault ws xs ≡ fine → n ≡ length (ringOf ws xs) → 3 * n ≤ length before
+      → d ≡ droppedOf ws → g ≡ widest (wholeLine ws xs) → t ≡ turnedOf (ringOf ws xs) → Put before after 0 (flat (reversed t (ringOf ws xs))) q
+      → Outlines ws xs before after (Made (record { count = n; dropped = d; gap = g; closed = le g tenth; turned = t }))
+  unfolding outlineAnswer judge readOutline leaves shortFault refuse outlineOf resultOf
+  ring-made after n d g t q e c h dr gp tu w =
+      let s : ltb (length before) (3 * length (ringOf ws xs)) ≡ false = rw (← c) (le-ltb (length before) (3 * n) h) in
+      let put = rw tu at (w .memory) in
+      let fits : length (flat (reversed (turnedOf (ringOf ws xs)) (ringOf ws xs))) ≤ length before =
+          rw (flat-length (reversed (turnedOf (ringOf ws xs)) (ringOf ws xs)), reversed-length (turnedOf (ringOf ws xs)) (ringOf ws xs), ← c) h in
+      record {
+        given = rw (e, s, c, dr, gp, tu);
+        memory = rw (e, s) (put ∙ sets-front (flat (reversed (turnedOf (ringOf ws xs)) (ringOf ws xs))) before fits);
+      }

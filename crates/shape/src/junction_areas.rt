@@ -125,7 +125,7 @@ fn before_end(n: usize) -> usize
 // Place i of n from the front, or from the back.
 fn place(back: bool, n: usize, i: usize) -> usize
     requires { ⌜ i < n ⌝ }
-    ensures { λ r. ⌜ r ≡ placeFrom back n i ⌝ }
+    ensures { λ r. ⌜ (r ≡ placeFrom back n i) × (r < n) ⌝ }
 {
     if back { n - (i + 1) } else { i }
 }
@@ -188,8 +188,8 @@ fn next_solid(segments: &[u32], k: usize) -> usize
 
 // Is the first segment s, with k, reversed? If there is no second, it is not.
 fn turns_alone(segments: &[u32], points: &[f32], s: &[f32], k: usize) -> bool
-    requires { ⌜ Sane (now segments) (now points) ⌝ }
     requires { ⌜ (k < length (now segments) / 2) × (startOf 2 0 (now segments) k < endOf 2 0 (now segments) k) × (length (solid (now segments) k) ≡ 0) × (now s ≡ segmentOf (now segments) (now points) k) ⌝ }
+    requires { ⌜ Sane (now segments) (now points) ⌝ }
     ensures { λ r. ⌜ ((end : Point) → r ≡ turnsAt (now (segments .entry)) (now (points .entry)) 0 end) ⌝ }
 {
     let next = next_solid(segments, k + 1);
@@ -203,8 +203,8 @@ fn turns_alone(segments: &[u32], points: &[f32], s: &[f32], k: usize) -> bool
 
 // How segment s, with number k and not empty, is joined to the ring that j tells of.
 fn turn_at(segments: &[u32], points: &[f32], s: &[f32], j: Joined, k: usize) -> Turn
-    requires { ⌜ Sane (now segments) (now points) ⌝ }
     requires { ⌜ (k < length (now segments) / 2) × (startOf 2 0 (now segments) k < endOf 2 0 (now segments) k) × (j .segments ≡ length (solid (now segments) k)) × (now s ≡ segmentOf (now segments) (now points) k) ⌝ }
+    requires { ⌜ Sane (now segments) (now points) ⌝ }
     ensures { λ r. ⌜ (r .back ≡ turnsAt (now (segments .entry)) (now (points .entry)) (j .segments) (j .held .last)) × (r .gap ≡ gapAt (now (segments .entry)) (now (points .entry)) (j .segments) (j .held .last) (j .gap)) ⌝ }
 {
     if j.segments == 0 {
@@ -273,8 +273,8 @@ fn append(s: &[f32], back: bool, line: &mut [f32], from: Held) -> Held
 
 // Segment k, unless it is empty. It is passed on as its part of the list of points.
 fn join_step(segments: &[u32], points: &[f32], line: &mut [f32], j: Joined, k: usize) -> Joined
-    requires { ⌜ Sane (now segments) (now points) ⌝ }
     requires { ⌜ (k < length (now segments) / 2) × (length (now line) ≡ 12288) × (j .held .count ≤ lastEnd 2 0 (now segments) k) × (j .segments ≡ length (solid (now segments) k)) ⌝ }
+    requires { ⌜ Sane (now segments) (now points) ⌝ }
     ensures { λ r. ⌜ ((blank : List Float) → Joins (now (segments .entry)) (now (points .entry)) blank (now (line .entry)) k j → Joins (now (segments .entry)) (now (points .entry)) blank (now (line .exit)) (k + 1) r) × (r .held .count ≤ lastEnd 2 0 (now (segments .entry)) (k + 1)) ⌝ }
 {
     let a = record_word(segments, 2, k, 0);

@@ -10,7 +10,7 @@ use lib.ListN.{length}
 use Rattle.vector.specs.declared.coords.Point.{Point}
 use Rattle.shape.specs.declared.junction_areas.Held.{Held}
 use Rattle.shape.specs.Lists.{pointAt}
-use Rattle.shape.specs.Outline.{placeFrom, pointFrom, extended}
+use Rattle.shape.specs.Outline.{pointFrom, extended}
 use Rattle.shape.specs.OutlineSteps.{Holds}
 use Rattle.shape.proofs.Joining.{extended-next}
 use Rattle.shape.proofs.junction_areas.append.Statement.{statement}
@@ -37,7 +37,6 @@ place-requires : tie.Need-place-requires Inv-loop μ-loop
 place-requires c κs = omega arith
 
 point-at-requires : tie.Need-point-at-requires Inv-loop μ-loop
-unfolding placeFrom
 point-at-requires c κs = omega arith
 
 add-point-requires : tie.Need-add-point-requires Inv-loop μ-loop
@@ -54,7 +53,7 @@ unfolding pointFrom
 loop-again c = 
     let a = c .before .before .before .before .before .before .before .before .before .before .args in
     let at = c .before .before .before .before .before .before .before .loop in
-    let p = c .before .before .before .before .point-at .ensures ∙ ap (pointAt (now (a .s))) (c .before .before .before .before .before .place .ensures) in
+    let p = c .before .before .before .before .point-at .ensures ∙ ap (pointAt (now (a .s))) (c .before .before .before .before .before .place .ensures .0) in
     record {
       holds = λ blank ring h. rw (extended-next ring (a .back) (now (a .s)) (at .i), ← p) (c .before .before .add-point .ensures .0 blank (extended ring (a .back) (now (a .s)) (at .i)) (at .inv .holds blank ring h));
       few = omega (arith, c .before .before .add-point .ensures .1, at .inv .few);

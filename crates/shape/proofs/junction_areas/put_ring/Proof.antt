@@ -1,6 +1,6 @@
 -- `shape::junction_areas::put_ring` meets its contract: after i turns i points stand in the memory. Assumes nothing.
 use mathlib.Core.Path.{_≡_, refl, ap, _∙_}
-use mathlib.Core.List.{List}
+use mathlib.Core.List.{List, [], _∷_}
 use Prim.Native.Nat.{_*_, _-_, _≤_}
 use native.Mathlib.Omega.{arith}
 use denote.Ref.{now}
@@ -11,7 +11,7 @@ use Rattle.shape.specs.Memory.{Put}
 use Rattle.shape.specs.Lists.{pointAt}
 use Rattle.shape.specs.Outline.{placeFrom, flat, reversedAt, reversed}
 use Rattle.shape.specs.Laws.Memory.{put-none, put-then}
-use Rattle.shape.proofs.Joining.{flat-count, flat-at, reversed-next}
+use Rattle.shape.proofs.Joining.{flat-length, flat-count, flat-at, reversed-next}
 use Rattle.shape.proofs.junction_areas.put_ring.Statement.{statement}
 use Rattle.shape.proofs.junction_areas.put_ring.Tie as tie
 
@@ -29,7 +29,6 @@ place-requires : tie.Need-place-requires Inv-loop μ-loop
 place-requires c κs = omega arith
 
 point-at-requires : tie.Need-point-at-requires Inv-loop μ-loop
-unfolding placeFrom
 point-at-requires c κs = omega arith
 
 put-point-requires : tie.Need-put-point-requires Inv-loop μ-loop
@@ -46,9 +45,9 @@ unfolding reversedAt
 loop-again c = 
     let a = c .before .before .before .before .before .before .before .before .before .before .args in
     let at = c .before .before .before .before .before .before .before .loop in
-    let p = c .before .before .before .point-at .ensures ∙ ap (pointAt (now (a .ring))) (c .before .before .before .before .place .ensures) in (
+    let p = c .before .before .before .point-at .ensures ∙ ap (pointAt (now (a .ring))) (c .before .before .before .before .place .ensures .0) in (
       λ line e. rw (reversed-next (a .back) line (at .i)) (put-then (at .inv .0 line e) (rw (p, e, flat-count line, flat-at line (placeFrom (a .back) (length line) (at .i))) at (c .before .before .put-point .ensures))),
-      omega (arith, c .before .before .put-point .ensures .ends),
+      omega (arith, c .before .before .put-point .ensures .ends, flat-length (c .before .before .before .point-at .result ∷ [])),
       omega arith,
       omega (arith, at .inv .3)
     )

@@ -1,36 +1,32 @@
+-- `shape::junction_areas::ring` meets its contract: each way out is a refusal or the outline of sound lists. Assumes nothing.
+use mathlib.Core.Path.{sym, ap, _∙_}
+use denote.Ref.{now}
+use Rattle.shape.specs.Refusal.{found}
+use Rattle.shape.proofs.Joining.{lists-refused}
 use borrow.Author.Needs.{needs}
 use Rattle.shape.proofs.junction_areas.ring.Statement.{statement}
 use Rattle.shape.proofs.junction_areas.ring.Tie as tie
-use Rattle.shape.proofs.junction_areas.ring.Reads as reads
-use Rattle.shape.proofs.junction_areas.ring.Lts as lts
-use Rattle.shape.proofs.junction_areas.outline_fault.Reads as outline-fault-reads
-use Rattle.shape.proofs.junction_areas.ring_of.Reads as ring-of-reads
 
--- src/junction_areas.rt:453:9
 outline-fault-requires : tie.Need-outline-fault-requires
 outline-fault-requires c κs = search needs
 
--- src/junction_areas.rt:455:23
 enum-known-fault : tie.Need-enum-known-fault
 enum-known-fault c = search needs
 
--- src/junction_areas.rt:456:50
 enum-told : tie.Need-enum-told
 enum-told c = search needs
 
--- src/junction_areas.rt:456:24
 ring-of-requires : tie.Need-ring-of-requires
-ring-of-requires c κs = ?
+unfolding found
+ring-of-requires c κs = sym (c .before .before .before .outline-fault .ensures) ∙ ap found (c .before .enum-told .given .1)
 
--- src/junction_areas.rt:450:1
 returns : tie.Need-returns
-returns c = ?
+unfolding found
+returns c = let a = c .before .before .before .before .before .before .before .args in lists-refused (now (a .segments)) (now (a .points)) (now (a .out)) _ (sym (c .before .before .before .outline-fault .ensures) ∙ ap found (c .before .fault .given .1))
 
--- src/junction_areas.rt:450:1
 same-length : tie.Need-same-length
 same-length c = search needs
 
--- src/junction_areas.rt:450:1
 returns-2 : tie.Need-returns-2
 returns-2 c = search needs
 

@@ -1,44 +1,39 @@
+-- `shape::junction_areas::ring_of` meets its contract. Assumes nothing.
+use Prim.Native.Nat.{_/_}
+use native.Mathlib.Omega.{arith}
+use denote.Ref.{now}
+use lib.Ieee.{Float}
+use lib.ListN.{length, length-replicate}
+use Rattle.vector.specs.Single.{0f}
+use Rattle.shape.proofs.Joining.{sane, solid-most, ring-part}
 use borrow.Author.Needs.{needs}
 use Rattle.shape.proofs.junction_areas.ring_of.Statement.{statement}
 use Rattle.shape.proofs.junction_areas.ring_of.Tie as tie
-use Rattle.shape.proofs.junction_areas.ring_of.Reads as reads
-use Rattle.shape.proofs.junction_areas.ring_of.Lts as lts
-use Rattle.shape.proofs.junction_areas.finish.Reads as finish-reads
-use Rattle.shape.proofs.junction_areas.join.Reads as join-reads
 
--- src/junction_areas.rt:441:36
 slice-aggregate-join : tie.Need-slice-aggregate-join
 slice-aggregate-join c = search needs
 
--- src/junction_areas.rt:441:9
 join-requires : tie.Need-join-requires
-join-requires c κs = ?
+join-requires c κs = (sane _ _ (c .before .before .before .before .pre), length-replicate {A = Float} 12288 0f)
 
--- src/junction_areas.rt:443:16
 mul-size : tie.Need-mul-size
 mul-size c = search needs
 
--- src/junction_areas.rt:444:19
 sub-dropped : tie.Need-sub-dropped
-sub-dropped c = ?
+sub-dropped c = omega (arith, c .before .before .before .before .join .ensures .0 .solids, solid-most (now (c .before .before .before .before .before .before .before .before .before .args .segments)) (length (now (c .before .before .before .before .before .before .before .before .before .args .segments)) / 2))
 
--- src/junction_areas.rt:445:12
 array-share-prefix-memory : tie.Need-array-share-prefix-memory
 array-share-prefix-memory c = search needs
 
--- src/junction_areas.rt:445:12
 slice-aggregate-finish : tie.Need-slice-aggregate-finish
 slice-aggregate-finish c = ?
 
--- src/junction_areas.rt:445:5
 finish-requires : tie.Need-finish-requires
 finish-requires c κs = ?
 
--- src/junction_areas.rt:436:1
 same-length : tie.Need-same-length
 same-length c = search needs
 
--- src/junction_areas.rt:436:1
 returns : tie.Need-returns
 returns c = ?
 

@@ -1,26 +1,24 @@
+-- `shape::junction_areas::turn_at` meets its contract. Assumes nothing.
+use mathlib.Core.Path.{refl, sym, _∙_}
+use denote.Ref.{now}
+use Rattle.shape.specs.Outline.{gapAt}
+use Rattle.shape.proofs.Joining.{at-later}
 use borrow.Author.Needs.{needs}
 use Rattle.shape.proofs.junction_areas.turn_at.Statement.{statement}
 use Rattle.shape.proofs.junction_areas.turn_at.Tie as tie
-use Rattle.shape.proofs.junction_areas.turn_at.Reads as reads
-use Rattle.shape.proofs.junction_areas.turn_at.Lts as lts
-use Rattle.shape.proofs.junction_areas.turn_later.Reads as turn-later-reads
-use Rattle.shape.proofs.junction_areas.turns_alone.Reads as turns-alone-reads
 
--- src/junction_areas.rt:212:19
 turns-alone-requires : tie.Need-turns-alone-requires
-turns-alone-requires c κs = ?
+turns-alone-requires c κs = let p = c .before .before .before .before .before .pre in ((p .0 .0, p .0 .1, sym (p .0 .2) ∙ c .if1 .taken, p .0 .3), p .1)
 
--- src/junction_areas.rt:211:9
 returns : tie.Need-returns
-returns c = ?
+unfolding gapAt
+returns c = rw (c .before .if1 .taken) (c .turns-alone .ensures (c .before .before .before .before .before .before .args .j .held .last), refl)
 
--- src/junction_areas.rt:217:5
 turn-later-requires : tie.Need-turn-later-requires
 turn-later-requires c κs = search needs
 
--- src/junction_areas.rt:205:1
 returns-2 : tie.Need-returns-2
-returns-2 c = ?
+returns-2 c = let a = c .before .before .before .before .before .before .before .args in let p = c .before .before .before .before .before .before .before .pre in at-later (now (a .segments)) (now (a .points)) (a .k) (p .0 .0) (p .0 .1) (a .j .segments) (p .0 .2) (now (a .s)) (p .0 .3) (a .j .held .last) (a .j .gap) _ _ (c .before .before .if1 .left) (c .turn-later .ensures)
 
 pub turn-at-spec : {M : Type 1} → statement M
 turn-at-spec = tie.close (tie.spec turns-alone-requires returns turn-later-requires returns-2)
