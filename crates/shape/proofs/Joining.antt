@@ -16,6 +16,7 @@ use Rattle.rounding.specs.Extremes.{maxOf}
 use Rattle.rounding.specs.Thresholds.{milli, tenth}
 use Rattle.vector.specs.Single.{_⊕_, 0f}
 use Rattle.vector.specs.declared.coords.Point.{Point}
+use Rattle.shape.specs.declared.junction_areas.Gap.{Gap}
 use Rattle.shape.specs.declared.junction_areas.Held.{Held}
 use Rattle.shape.specs.declared.junction_areas.Joined.{Joined}
 use Rattle.shape.specs.declared.junction_areas.OutlineAnswer.the-variants.{Made, Refused}
@@ -163,7 +164,7 @@ ring-part {blank} {m} {ring} {h} holds k =
 pub extended-next : (ring : List Point) (back : Bool) (s : List Float) (i : ℕ)
     → extended ring back s (i + 1) ≡ added (extended ring back s i) (pointFrom back s i)
 unfolding extended
-extended-next ring back s i = rw add-one
+extended-next ring back s i = rw (add-one i)
 
 -- ---- which way round
 
@@ -274,8 +275,8 @@ module _ (ws : List ℕ) (xs blank : List Float) (k : ℕ) {m : List Float} {j :
   pub join-none : endOf 2 0 ws k ≤ startOf 2 0 ws k → Joins ws xs blank m (k + 1) j
   join-none h = let e = solid-same ws k h in record { holds = rw e (at .holds); solids = rw e (at .solids); gap = rw e (at .gap) }
 
-  pub join-more : {m′ : List Float} (s : List Float) (back : Bool) (gap : Float) (h : Held) → k < length ws / 2 → startOf 2 0 ws k < endOf 2 0 ws k
-      → s ≡ segmentOf ws xs k → (back ≡ turnsAt ws xs (j .segments) (j .held .last)) × (gap ≡ gapAt ws xs (j .segments) (j .held .last) (j .gap))
+  pub join-more : {m′ : List Float} (s : List Float) (back : Bool) (gap : Gap) (h : Held) → k < length ws / 2 → startOf 2 0 ws k < endOf 2 0 ws k
+      → s ≡ segmentOf ws xs k → (back ≡ turnsAt ws xs (j .segments) (j .held .last)) × (gap .root ≡ gapAt ws xs (j .segments) (j .held .last) (j .gap .root))
       → Holds blank m′ (extended (joined ws xs (length (solid ws k)) .ring) back s (length s / 3)) h
       → Joins ws xs blank m′ (k + 1) (record { held = h; segments = j .segments + 1; gap = gap })
   unfolding joined
@@ -284,7 +285,7 @@ module _ (ws : List ℕ) (xs blank : List Float) (k : ℕ) {m : List Float} {j :
       let i = length (solid ws k) in
       let here = is ∙ sym (segment-here ws k xs n l) in
       let b : back ≡ turnsAt ws xs i (lastOf (joined ws xs i .ring)) = rw (← (at .holds .end), ← (at .solids)) (t .0) in
-      let g : gap ≡ gapAt ws xs i (lastOf (joined ws xs i .ring)) (joined ws xs i .gap) = rw (← (at .holds .end), ← (at .gap), ← (at .solids)) (t .1) in
+      let g : gap .root ≡ gapAt ws xs i (lastOf (joined ws xs i .ring)) (joined ws xs i .gap) = rw (← (at .holds .end), ← (at .gap), ← (at .solids)) (t .1) in
       record {
         holds = rw (e, ← b, ← here) w;
         solids = rw (e, at .solids) (add-one i);
@@ -369,7 +370,7 @@ module _ {ws : List ℕ} {xs : List Float} (s : Sane ws xs) (k : ℕ) (h : k < l
 
 pub last-end-next : (ws : List ℕ) (k : ℕ) → lastEnd 2 0 ws (k + 1) ≡ endOf 2 0 ws k
 unfolding lastEnd
-last-end-next ws k = rw add-one
+last-end-next ws k = rw (add-one k)
 
 pub last-end-small : {ws : List ℕ} {xs : List Float} → Sane ws xs → (k : ℕ) → k ≤ length ws / 2 → lastEnd 2 0 ws k ≤ 4096
 unfolding lastEnd

@@ -1,2 +1,3 @@
 -- Lemmas that the functions' proofs share.
 pub mod Joining
+pub mod Reaching

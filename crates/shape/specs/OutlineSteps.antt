@@ -5,8 +5,16 @@ use mathlib.Core.List.{List}
 use Prim.Native.Nat.{ℕ, _/_, _≤_}
 use lib.ListN.{length}
 use lib.Seq.{sets}
-use lib.Ieee.{Float}
+use lib.Dec.{T}
+use lib.Ieee.{Float, binary32, binary64, le, mul}
+use Rattle.rounding.specs.Hypot.{squaresOf}
+use Rattle.rounding.specs.Root.{sqrtOf}
+use Rattle.rounding.specs.Width.{narrowOf}
+use Rattle.rounding.specs.Laws.Order.{IsNum}
+use Rattle.rounding.specs.Laws.RootOrder.{nought}
+use Rattle.vector.specs.Single.{_⊖_, single}
 use Rattle.vector.specs.declared.coords.Point.{Point}
+use Rattle.shape.specs.declared.junction_areas.Gap.{Gap}
 use Rattle.shape.specs.declared.junction_areas.Held.{Held}
 use Rattle.shape.specs.declared.junction_areas.Joined.{Joined}
 use Rattle.shape.specs.declared.junction_areas.OutlineAnswer.{OutlineAnswer}
@@ -14,6 +22,31 @@ use Rattle.shape.specs.Gather.{any}
 use Rattle.shape.specs.Refusal.{leaves}
 use Rattle.shape.specs.Lists.{runBad}
 use Rattle.shape.specs.Outline.{lastOf, flat, solid, joined, outlineAnswer, readOutline, resultOf}
+
+-- the sum of squares between two places, and the root that makes a distance of it
+unfoldable pub squaresBetween : Point → Point → Float
+unfolding squaresOf
+squaresBetween p q = squaresOf (p .x ⊖ q .x) (p .y ⊖ q .y)
+
+unfoldable pub rootedOf : Float → Float
+unfolding narrowOf sqrtOf
+rootedOf s = narrowOf binary32 (sqrtOf binary64 s)
+
+-- a difference of at least 0.002 (0x3b03126f), by its square
+abbrev pub wide : Float
+wide = single 0x3b03_126f
+
+unfoldable pub Wide : Float → Type 0
+Wide x = T (le (mul binary64 wide wide) (mul binary64 x x))
+
+-- a number that is not below 0, or a NaN
+unfoldable pub Squares : Float → Type 0
+Squares s = IsNum s → T (le nought s)
+
+-- a gap is not below the root of the squares beside it
+pub record Covers (gap : Gap) : Type 0 where
+  pub least : T (le nought (gap .squares))
+  pub under : T (le (rootedOf (gap .squares)) (gap .root))
 
 -- lists that are not turned back
 pub record Sane (ws : List ℕ) (xs : List Float) : Type 0 where
@@ -31,7 +64,7 @@ pub record Holds (blank memory : List Float) (ring : List Point) (h : Held) : Ty
 pub record Joins (ws : List ℕ) (xs blank memory : List Float) (k : ℕ) (j : Joined) : Type 0 where
   pub holds : Holds blank memory (joined ws xs (length (solid ws k)) .ring) (j .held)
   pub solids : j .segments ≡ length (solid ws k)
-  pub gap : j .gap ≡ joined ws xs (length (solid ws k)) .gap
+  pub gap : j .gap .root ≡ joined ws xs (length (solid ws k)) .gap
 
 -- the promise of the whole call
 pub record Outlines (ws : List ℕ) (xs before after : List Float) (answer : OutlineAnswer) : Type 0 where

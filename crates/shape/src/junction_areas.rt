@@ -1,10 +1,12 @@
 // The outline of a junction: its boundary segments joined to one ring of points.
 ghost use mathlib.Core.Path.{_≡_};
+ghost use mathlib.Core.Bool.{true};
 ghost use mathlib.Core.List.{List, [], _∷_};
 ghost use Prim.Native.Nat.{ℕ, _+_, _-_, _*_, _/_, _^_, _≤_, _<_};
 ghost use lib.Ieee.{Float, lt, le};
 ghost use lib.ListN.{length, take};
 ghost use Rattle.rounding.specs.Extremes.{maxOf};
+ghost use Rattle.rounding.specs.Hypot.{hypotOf};
 ghost use Rattle.rounding.specs.Thresholds.{milli};
 ghost use Rattle.vector.specs.declared.coords.Point.{Point};
 ghost use Rattle.shape.specs.Memory.{Put};
@@ -37,7 +39,7 @@ ghost use Rattle.shape.specs.Outline.{
   flat,
   outlineFault,
 };
-ghost use Rattle.shape.specs.OutlineSteps.{Sane, Holds, Joins, Outlines};
+ghost use Rattle.shape.specs.OutlineSteps.{squaresBetween, rootedOf, Wide, Squares, Covers, Sane, Holds, Joins, Outlines};
 use crate::lists::any_bad;
 use crate::lists::point_at;
 use crate::lists::record_word;
@@ -48,6 +50,9 @@ use rounding::compare::hypot_at_most_milli;
 use rounding::extremes::max32;
 use rounding::extremes::min32;
 use rounding::hypot::hypot;
+use rounding::hypot::squares;
+use rounding::root::sqrt64;
+use rounding::width::narrow;
 use vector::coords::Point;
 
 // A ring that was made: how many points it has, how many segments were empty, the greatest gap, whether
@@ -71,17 +76,23 @@ struct Held {
     last: Point,
 }
 
+// The greatest gap so far, and a sum of squares whose root it is not below.
+struct Gap {
+    root: f32,
+    squares: f64,
+}
+
 // The ring so far, with how many segments it is made of and the greatest gap between them.
 struct Joined {
     held: Held,
     segments: usize,
-    gap: f32,
+    gap: Gap,
 }
 
 // How a segment is joined on: from its end or not, and the greatest gap with it.
 struct Turn {
     back: bool,
-    gap: f32,
+    gap: Gap,
 }
 
 // ---- distances in x and y
@@ -92,11 +103,39 @@ fn reach(p: Point, q: Point) -> f32
     hypot(p.x - q.x, p.y - q.y)
 }
 
+// Is a difference at least 0.002, up or down?
+fn is_wide(x: f32) -> bool
+    ensures { λ r. ⌜ (r ≡ true → Wide x) ⌝ }
+{
+    if x >= 0.002 {
+        return true;
+    }
+    x <= -0.002
+}
+
+// One difference alone says that most points lie more than 1e-3 apart; a NaN beside it says no.
+fn clearly_apart(x: f32, y: f32) -> bool
+    ensures { λ r. ⌜ (r ≡ true → lt milli (hypotOf x y) ≡ true) ⌝ }
+{
+    if is_wide(x) {
+        return y == y;
+    }
+    if is_wide(y) {
+        return x == x;
+    }
+    false
+}
+
 // Is the distance above 1e-3? No root is taken for it, nor for the next.
 fn apart(p: Point, q: Point) -> bool
     ensures { λ r. ⌜ r ≡ lt milli (reachOf p q) ⌝ }
 {
-    hypot_above_milli(p.x - q.x, p.y - q.y)
+    let x = p.x - q.x;
+    let y = p.y - q.y;
+    if clearly_apart(x, y) {
+        return true;
+    }
+    hypot_above_milli(x, y)
 }
 
 // Is it at most 1e-3?
@@ -104,6 +143,44 @@ fn meets(p: Point, q: Point) -> bool
     ensures { λ r. ⌜ r ≡ le (reachOf p q) milli ⌝ }
 {
     hypot_at_most_milli(p.x - q.x, p.y - q.y)
+}
+
+// The sum of squares whose root is the distance.
+fn between(p: Point, q: Point) -> f64
+    ensures { λ r. ⌜ r ≡ squaresBetween p q ⌝ }
+{
+    squares(p.x - q.x, p.y - q.y)
+}
+
+fn root(s: f64) -> f32
+    ensures { λ r. ⌜ r ≡ rootedOf s ⌝ }
+{
+    narrow(sqrt64(s))
+}
+
+// Is the root of a strictly below that of b? No root is taken where the squares already say no.
+fn nearer(a: f64, b: f64) -> bool
+    requires { ⌜ Squares b ⌝ }
+    ensures { λ r. ⌜ r ≡ lt (rootedOf a) (rootedOf b) ⌝ }
+{
+    if b <= a {
+        return false;
+    }
+    root(a) < root(b)
+}
+
+// The greatest gap, where the root of s is one more. No root is taken where s is not above the squares.
+fn widened(gap: Gap, s: f64) -> Gap
+    requires { ⌜ Covers gap × Squares s ⌝ }
+    ensures { λ r. ⌜ (r .root ≡ maxOf (gap .root) (rootedOf s)) × Covers r ⌝ }
+{
+    if s > gap.squares {
+        return Gap {
+            root: max32(gap.root, root(s)),
+            squares: s,
+        };
+    }
+    gap
 }
 
 // The distance to the nearer of two places.
@@ -152,20 +229,21 @@ fn turns_first(s: &[f32], t: &[f32]) -> bool
 }
 
 // A later segment s, where the ring ends at `end`. The gap to it is one of the two distances compared.
-fn turn_later(end: Point, gap: f32, s: &[f32]) -> Turn
-    ensures { λ r. ⌜ (r .back ≡ turnsLater end (now (s .entry))) × (r .gap ≡ maxOf gap (reachOf end (pointFrom (turnsLater end (now (s .entry))) (now (s .entry)) 0))) ⌝ }
+fn turn_later(end: Point, gap: Gap, s: &[f32]) -> Turn
+    requires { ⌜ Covers gap ⌝ }
+    ensures { λ r. ⌜ (r .back ≡ turnsLater end (now (s .entry))) × (r .gap .root ≡ maxOf (gap .root) (reachOf end (pointFrom (turnsLater end (now (s .entry))) (now (s .entry)) 0))) × Covers (r .gap) ⌝ }
 {
-    let far = reach(end, final_point(s));
-    let near = reach(end, first_point(s));
-    if far < near {
+    let far = between(end, final_point(s));
+    let near = between(end, first_point(s));
+    if nearer(far, near) {
         return Turn {
             back: true,
-            gap: max32(gap, far),
+            gap: widened(gap, far),
         };
     }
     Turn {
         back: false,
-        gap: max32(gap, near),
+        gap: widened(gap, near),
     }
 }
 
@@ -203,18 +281,19 @@ fn turns_alone(segments: &[u32], points: &[f32], s: &[f32], k: usize) -> bool
 
 // How segment s, with number k and not empty, is joined to the ring that j tells of.
 fn turn_at(segments: &[u32], points: &[f32], s: &[f32], j: Joined, k: usize) -> Turn
-    requires { ⌜ (k < length (now segments) / 2) × (startOf 2 0 (now segments) k < endOf 2 0 (now segments) k) × (j .segments ≡ length (solid (now segments) k)) × (now s ≡ segmentOf (now segments) (now points) k) ⌝ }
+    requires { ⌜ (k < length (now segments) / 2) × (startOf 2 0 (now segments) k < endOf 2 0 (now segments) k) × (j .segments ≡ length (solid (now segments) k)) × (now s ≡ segmentOf (now segments) (now points) k) × Covers (j .gap) ⌝ }
     requires { ⌜ Sane (now segments) (now points) ⌝ }
-    ensures { λ r. ⌜ (r .back ≡ turnsAt (now (segments .entry)) (now (points .entry)) (j .segments) (j .held .last)) × (r .gap ≡ gapAt (now (segments .entry)) (now (points .entry)) (j .segments) (j .held .last) (j .gap)) ⌝ }
+    ensures { λ r. ⌜ (r .back ≡ turnsAt (now (segments .entry)) (now (points .entry)) (j .segments) (j .held .last)) × (r .gap .root ≡ gapAt (now (segments .entry)) (now (points .entry)) (j .segments) (j .held .last) (j .gap .root)) × Covers (r .gap) ⌝ }
 {
+    let held = j.held;
+    let gap = j.gap;
     if j.segments == 0 {
         return Turn {
             back: turns_alone(segments, points, s, k),
-            gap: j.gap,
+            gap: gap,
         };
     }
-    let held = j.held;
-    turn_later(held.last, j.gap, s)
+    turn_later(held.last, gap, s)
 }
 
 // ---- joining
@@ -273,9 +352,9 @@ fn append(s: &[f32], back: bool, line: &mut [f32], from: Held) -> Held
 
 // Segment k, unless it is empty. It is passed on as its part of the list of points.
 fn join_step(segments: &[u32], points: &[f32], line: &mut [f32], j: Joined, k: usize) -> Joined
-    requires { ⌜ (k < length (now segments) / 2) × (length (now line) ≡ 12288) × (j .held .count ≤ lastEnd 2 0 (now segments) k) × (j .segments ≡ length (solid (now segments) k)) ⌝ }
+    requires { ⌜ (k < length (now segments) / 2) × (length (now line) ≡ 12288) × (j .held .count ≤ lastEnd 2 0 (now segments) k) × (j .segments ≡ length (solid (now segments) k)) × Covers (j .gap) ⌝ }
     requires { ⌜ Sane (now segments) (now points) ⌝ }
-    ensures { λ r. ⌜ ((blank : List Float) → Joins (now (segments .entry)) (now (points .entry)) blank (now (line .entry)) k j → Joins (now (segments .entry)) (now (points .entry)) blank (now (line .exit)) (k + 1) r) × (r .held .count ≤ lastEnd 2 0 (now (segments .entry)) (k + 1)) ⌝ }
+    ensures { λ r. ⌜ ((blank : List Float) → Joins (now (segments .entry)) (now (points .entry)) blank (now (line .entry)) k j → Joins (now (segments .entry)) (now (points .entry)) blank (now (line .exit)) (k + 1) r) × (r .held .count ≤ lastEnd 2 0 (now (segments .entry)) (k + 1)) × Covers (r .gap) ⌝ }
 {
     let a = record_word(segments, 2, k, 0);
     let e = record_word(segments, 2, k, 1);
@@ -287,10 +366,11 @@ fn join_step(segments: &[u32], points: &[f32], line: &mut [f32], j: Joined, k: u
     let t = turn_at(segments, points, &points[from..to], j, k);
     let held = j.held;
     let h = append(&points[from..to], t.back, line, held);
+    let gap = t.gap;
     Joined {
         held: h,
         segments: j.segments + 1,
-        gap: t.gap,
+        gap: gap,
     }
 }
 
@@ -308,10 +388,14 @@ fn join(segments: &[u32], points: &[f32], line: &mut [f32]) -> Joined
             z: 0.0,
         },
     };
+    let gap = Gap {
+        root: 0.0,
+        squares: 0.0,
+    };
     let mut j = Joined {
         held: none,
         segments: 0,
-        gap: 0.0,
+        gap: gap,
     };
     let mut k: usize = 0;
     while k < segments.len() / 2 {
@@ -442,7 +526,8 @@ fn ring_of(segments: &[u32], points: &[f32], out: &mut [f32]) -> OutlineAnswer
     let held = j.held;
     let size = 3 * held.count;
     let dropped = segments.len() / 2 - j.segments;
-    finish(&memory[..size], j.gap, dropped, out)
+    let gap = j.gap;
+    finish(&memory[..size], gap.root, dropped, out)
 }
 
 // The ring of the boundary whose segments are runs of the list of points. Its coordinates are left at
