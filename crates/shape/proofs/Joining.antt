@@ -372,10 +372,10 @@ pub last-end-next : (ws : List ℕ) (k : ℕ) → lastEnd 2 0 ws (k + 1) ≡ end
 unfolding lastEnd
 last-end-next ws k = rw (add-one k)
 
-pub last-end-small : {ws : List ℕ} {xs : List Float} → Sane ws xs → (k : ℕ) → k ≤ length ws / 2 → lastEnd 2 0 ws k ≤ 4096
+pub last-end-within : {ws : List ℕ} {xs : List Float} → Sane ws xs → (k : ℕ) → k ≤ length ws / 2 → lastEnd 2 0 ws k ≤ length xs / 3
 unfolding lastEnd
-last-end-small s zero h = omega arith
-last-end-small s (suc k) h = let r = run-sound s k (omega arith) in omega (arith, s .small)
+last-end-within s zero h = omega arith
+last-end-within s (suc k) h = let r = run-sound s k (omega arith) in r .within
 
 -- ---- the answer
 
@@ -419,7 +419,7 @@ module _ (ws : List ℕ) (xs before : List Float) where
       let s : ltb (length before) (3 * length (ringOf ws xs)) ≡ false = rw (← c) (le-ltb (length before) (3 * n) h) in
       let put = rw tu at (w .memory) in
       let fits : length (flat (reversed (turnedOf (ringOf ws xs)) (ringOf ws xs))) ≤ length before =
-          rw (flat-length (reversed (turnedOf (ringOf ws xs)) (ringOf ws xs)), reversed-length (turnedOf (ringOf ws xs)) (ringOf ws xs), ← c) h in
+      rw (flat-length (reversed (turnedOf (ringOf ws xs)) (ringOf ws xs)), reversed-length (turnedOf (ringOf ws xs)) (ringOf ws xs), ← c) h in
       record {
         given = rw (e, s, c, dr, gp, tu);
         memory = rw (e, s) (put ∙ sets-front (flat (reversed (turnedOf (ringOf ws xs)) (ringOf ws xs))) before fits);

@@ -352,7 +352,7 @@ fn append(s: &[f32], back: bool, line: &mut [f32], from: Held) -> Held
 
 // Segment k, unless it is empty. It is passed on as its part of the list of points.
 fn join_step(segments: &[u32], points: &[f32], line: &mut [f32], j: Joined, k: usize) -> Joined
-    requires { ⌜ (k < length (now segments) / 2) × (length (now line) ≡ 12288) × (j .held .count ≤ lastEnd 2 0 (now segments) k) × (j .segments ≡ length (solid (now segments) k)) × Covers (j .gap) ⌝ }
+    requires { ⌜ (k < length (now segments) / 2) × (length (now points) ≤ length (now line)) × (j .held .count ≤ lastEnd 2 0 (now segments) k) × (j .segments ≡ length (solid (now segments) k)) × Covers (j .gap) ⌝ }
     requires { ⌜ Sane (now segments) (now points) ⌝ }
     ensures { λ r. ⌜ ((blank : List Float) → Joins (now (segments .entry)) (now (points .entry)) blank (now (line .entry)) k j → Joins (now (segments .entry)) (now (points .entry)) blank (now (line .exit)) (k + 1) r) × (r .held .count ≤ lastEnd 2 0 (now (segments .entry)) (k + 1)) × Covers (r .gap) ⌝ }
 {
@@ -377,8 +377,8 @@ fn join_step(segments: &[u32], points: &[f32], line: &mut [f32], j: Joined, k: u
 // All segments, one after another.
 fn join(segments: &[u32], points: &[f32], line: &mut [f32]) -> Joined
     requires { ⌜ Sane (now segments) (now points) ⌝ }
-    requires { ⌜ length (now line) ≡ 12288 ⌝ }
-    ensures { λ r. ⌜ Joins (now (segments .entry)) (now (points .entry)) (now (line .entry)) (now (line .exit)) (length (now (segments .entry)) / 2) r × (r .held .count ≤ 4096) ⌝ }
+    requires { ⌜ length (now points) ≤ length (now line) ⌝ }
+    ensures { λ r. ⌜ Joins (now (segments .entry)) (now (points .entry)) (now (line .entry)) (now (line .exit)) (length (now (segments .entry)) / 2) r × (3 * r .held .count ≤ length (now (points .entry))) ⌝ }
 {
     let none = Held {
         count: 0,
@@ -516,18 +516,37 @@ fn outline_fault(segments: &[u32], points: &[f32]) -> Check
     Check::Fine
 }
 
-// The outline of lists that are sound.
-fn ring_of(segments: &[u32], points: &[f32], out: &mut [f32]) -> OutlineAnswer
+// The outline of lists that are sound, joined in the memory `line`.
+fn ring_in(segments: &[u32], points: &[f32], line: &mut [f32], out: &mut [f32]) -> OutlineAnswer
     requires { ⌜ outlineFault (now segments) (now points) ≡ fine ⌝ }
+    requires { ⌜ length (now points) ≤ length (now line) ⌝ }
     ensures { λ r. ⌜ Outlines (now (segments .entry)) (now (points .entry)) (now (out .entry)) (now (out .exit)) r ⌝ }
 {
-    let mut memory = [0.0f32; 12288];
-    let j = join(segments, points, &mut memory);
+    let j = join(segments, points, line);
     let held = j.held;
     let size = 3 * held.count;
     let dropped = segments.len() / 2 - j.segments;
     let gap = j.gap;
-    finish(&memory[..size], gap.root, dropped, out)
+    finish(&line[..size], gap.root, dropped, out)
+}
+
+// The same in memory for as many points as may come, and in memory for a few: to clear the whole takes
+// longer than to join a few points.
+fn ring_of_many(segments: &[u32], points: &[f32], out: &mut [f32]) -> OutlineAnswer
+    requires { ⌜ outlineFault (now segments) (now points) ≡ fine ⌝ }
+    ensures { λ r. ⌜ Outlines (now (segments .entry)) (now (points .entry)) (now (out .entry)) (now (out .exit)) r ⌝ }
+{
+    let mut line = [0.0f32; 12288];
+    ring_in(segments, points, &mut line, out)
+}
+
+fn ring_of_few(segments: &[u32], points: &[f32], out: &mut [f32]) -> OutlineAnswer
+    requires { ⌜ outlineFault (now segments) (now points) ≡ fine ⌝ }
+    requires { ⌜ length (now points) ≤ 768 ⌝ }
+    ensures { λ r. ⌜ Outlines (now (segments .entry)) (now (points .entry)) (now (out .entry)) (now (out .exit)) r ⌝ }
+{
+    let mut line = [0.0f32; 768];
+    ring_in(segments, points, &mut line, out)
 }
 
 // The ring of the boundary whose segments are runs of the list of points. Its coordinates are left at
@@ -536,8 +555,11 @@ pub fn ring(segments: &[u32], points: &[f32], out: &mut [f32]) -> OutlineAnswer
     ensures { λ r. ⌜ Outlines (now (segments .entry)) (now (points .entry)) (now (out .entry)) (now (out .exit)) r ⌝ }
 {
     let fault = outline_fault(segments, points);
-    match fault {
-        Check::Faulty(r) => OutlineAnswer::Refused(r),
-        Check::Fine => ring_of(segments, points, out),
+    if let Check::Faulty(r) = fault {
+        return OutlineAnswer::Refused(r);
     }
+    if points.len() <= 768 {
+        return ring_of_few(segments, points, out);
+    }
+    ring_of_many(segments, points, out)
 }

@@ -50,7 +50,7 @@ loop-less c = omega arith
 
 loop-again : tie.Need-loop-again Inv-loop μ-loop
 unfolding pointFrom
-loop-again c = 
+loop-again c =
     let a = c .before .before .before .before .before .before .before .before .before .before .args in
     let at = c .before .before .before .before .before .before .before .loop in
     let p = c .before .before .before .before .point-at .ensures ∙ ap (pointAt (now (a .s))) (c .before .before .before .before .before .place .ensures .0) in
@@ -65,7 +65,7 @@ same-length : tie.Need-same-length Inv-loop μ-loop
 same-length c = c .before .loop .inv .long
 
 returns : tie.Need-returns Inv-loop μ-loop
-returns c = 
+returns c =
     let a = c .before .before .before .before .args in
     let at = c .before .loop in
     let e : at .i ≡ length (now (a .s)) / 3 = omega (arith, at .inv .most) in

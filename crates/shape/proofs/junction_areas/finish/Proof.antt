@@ -47,7 +47,7 @@ same-length c = search needs
 
 returns-2 : tie.Need-returns-2
 unfolding ringOf turnedOf
-returns-2 c = 
+returns-2 c =
     λ ws xs e r g d.
     let a = c .before .before .before .before .before .before .before .before .before .before .before .before .before .before .args in
     let n = c .before .before .before .before .before .before .before .before .before .before .before .open-count .ensures .0 (wholeLine ws xs .ring) r in

@@ -17,11 +17,11 @@ record-word-requires-2 : tie.Need-record-word-requires-2
 record-word-requires-2 c κs = search needs
 
 returns : tie.Need-returns
-returns c = 
+returns c =
     let a = c .before .before .before .before .before .before .args in let p = c .before .before .before .before .before .before .pre in let r = run-sound (p .1) (a .k) (p .0 .0) in (
       λ blank at. join-none (now (a .segments)) (now (a .points)) blank (a .k) at (omega (arith, c .before .record-word2 .ensures .0, c .before .before .record-word .ensures .0)),
       rw (last-end-next (now (a .segments)) (a .k)) (omega (arith, p .0 .2)),
-      p .0 .4
+      p .0 .4,
     )
 
 mul-from : tie.Need-mul-from
@@ -58,7 +58,7 @@ part-append-end : tie.Need-part-append-end
 part-append-end c = let a = c .before .before .before .before .before .before .before .before .before .args in let p = c .before .before .before .before .before .before .before .before .before .pre in let r = run-sound (p .1) (a .k) (p .0 .0) in omega (arith, c .before .before .before .before .record-word2 .ensures .0)
 
 append-requires : tie.Need-append-requires
-append-requires c κs = 
+append-requires c κs =
     let a = c .before .before .before .before .before .before .before .before .before .before .before .args in let p = c .before .before .before .before .before .before .before .before .before .before .before .pre in let r = run-sound (p .1) (a .k) (p .0 .0) in
     let n = ap length (segment-part (p .1) (a .k) (p .0 .0) _ _ (c .before .before .before .before .before .before .before .record-word .ensures .0) (c .before .before .before .before .before .before .record-word2 .ensures .0)) ∙ segment-count (p .1) (a .k) (p .0 .0) in
     (omega (arith, p .0 .1, p .0 .2, p .1 .small), omega (arith, p .1 .small))
@@ -70,14 +70,14 @@ same-length : tie.Need-same-length
 same-length c = search needs
 
 returns-2 : tie.Need-returns-2
-returns-2 c = 
+returns-2 c =
     let a = c .before .before .before .before .before .before .before .before .before .before .before .before .before .before .before .before .args in let p = c .before .before .before .before .before .before .before .before .before .before .before .before .before .before .before .before .pre in let r = run-sound (p .1) (a .k) (p .0 .0) in let l : startOf 2 0 (now (a .segments)) (a .k) < endOf 2 0 (now (a .segments)) (a .k) = omega (arith, c .before .before .before .before .before .before .before .before .before .before .before .before .record-word .ensures .0, c .before .before .before .before .before .before .before .before .before .before .before .record-word2 .ensures .0, c .before .before .before .before .before .before .before .before .before .before .if1 .left) in
     let part = segment-part (p .1) (a .k) (p .0 .0) _ _ (c .before .before .before .before .before .before .before .before .before .before .before .before .record-word .ensures .0) (c .before .before .before .before .before .before .before .before .before .before .before .record-word2 .ensures .0) in
     let n = ap length part ∙ segment-count (p .1) (a .k) (p .0 .0) in
     let t = c .before .before .before .before .before .before .before .before .turn-at .ensures in (
       λ blank at. join-more (now (a .segments)) (now (a .points)) blank (a .k) at _ _ _ _ (p .0 .0) l part (t .0, t .1) (c .before .before .before .before .append .ensures .0 blank _ (at .holds)),
       rw (last-end-next (now (a .segments)) (a .k)) (omega (arith, c .before .before .before .before .append .ensures .1, p .0 .2)),
-      t .2
+      t .2,
     )
 
 pub join-step-spec : {M : Type 1} → statement M

@@ -18,7 +18,7 @@ turn-later-requires : tie.Need-turn-later-requires
 turn-later-requires c κs = c .before .before .before .before .before .before .before .pre .0 .4
 
 returns-2 : tie.Need-returns-2
-returns-2 c = 
+returns-2 c =
     let a = c .before .before .before .before .before .before .before .before .args in
     let p = c .before .before .before .before .before .before .before .before .pre in
     let t = c .turn-later .ensures in

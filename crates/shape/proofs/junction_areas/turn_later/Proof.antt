@@ -28,7 +28,7 @@ widened-requires : tie.Need-widened-requires
 widened-requires c κs = (c .before .before .before .before .before .before .before .pre, rw (c .before .before .before .before .between .ensures) (squares-least _ _))
 
 returns : tie.Need-returns
-returns c = 
+returns c =
     let a = c .before .before .before .before .before .before .before .before .args in
     let r = later-back (a .end) (a .gap .root) (now (a .s)) _ _ (ap rootedOf (c .before .before .before .before .before .between .ensures ∙ ap (squaresBetween (a .end)) (c .before .before .before .before .before .before .final-point .ensures)) ∙ rooted-between (a .end) (finalOf (now (a .s)))) (ap rootedOf (c .before .before .before .between2 .ensures ∙ ap (squaresBetween (a .end)) (c .before .before .before .before .first-point .ensures)) ∙ rooted-between (a .end) (firstOf (now (a .s)))) _ (sym (c .before .before .nearer .ensures) ∙ c .before .if1 .taken) (c .widened .ensures .0) in
     (r .0, r .1, c .widened .ensures .1)
@@ -37,7 +37,7 @@ widened-requires-2 : tie.Need-widened-requires-2
 widened-requires-2 c κs = (c .before .before .before .before .before .before .before .pre, rw (c .before .before .between2 .ensures) (squares-least _ _))
 
 returns-2 : tie.Need-returns-2
-returns-2 c = 
+returns-2 c =
     let a = c .before .before .before .before .before .before .before .before .args in
     let r = later-front (a .end) (a .gap .root) (now (a .s)) _ _ (ap rootedOf (c .before .before .before .before .before .between .ensures ∙ ap (squaresBetween (a .end)) (c .before .before .before .before .before .before .final-point .ensures)) ∙ rooted-between (a .end) (finalOf (now (a .s)))) (ap rootedOf (c .before .before .before .between2 .ensures ∙ ap (squaresBetween (a .end)) (c .before .before .before .before .first-point .ensures)) ∙ rooted-between (a .end) (firstOf (now (a .s)))) _ (sym (c .before .before .nearer .ensures) ∙ c .before .if1 .left) (c .widened2 .ensures .0) in
     (r .0, r .1, c .widened2 .ensures .1)

@@ -46,7 +46,7 @@ turns-first-requires : tie.Need-turns-first-requires
 turns-first-requires c κs = search needs
 
 returns-2 : tie.Need-returns-2
-returns-2 c = 
+returns-2 c =
     let a = c .before .before .before .before .before .before .before .before .before .args in let p = c .before .before .before .before .before .before .before .before .before .pre in let m : c .before .before .before .before .before .next-solid .result < length (now (a .segments)) / 2 = omega (arith, c .before .before .before .before .before .next-solid .ensures .0, c .before .before .before .before .if1 .left) in
     let t = rw (p .0 .3, segment-part (p .1) (c .before .before .before .before .before .next-solid .result) m _ _ (c .before .before .before .record-word .ensures .0) (c .before .before .record-word2 .ensures .0)) at (c .turns-first .ensures) in
     λ end. t ∙ followed (now (a .segments)) (now (a .points)) (a .k) (p .0 .0) (p .0 .1) (p .0 .2) end (c .before .before .before .before .before .next-solid .result) m (c .before .before .before .before .before .next-solid .ensures .1 m) (c .before .before .before .before .before .next-solid .ensures .0 .2)
