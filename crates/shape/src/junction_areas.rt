@@ -225,7 +225,9 @@ fn turns_first(s: &[f32], t: &[f32]) -> bool
 {
     let a = first_point(t);
     let b = final_point(t);
-    nearness(first_point(s), a, b) < nearness(final_point(s), a, b)
+    let start = nearness(first_point(s), a, b);
+    let end = nearness(final_point(s), a, b);
+    start < end
 }
 
 // A later segment s, where the ring ends at `end`. The gap to it is one of the two distances compared.
@@ -479,8 +481,8 @@ fn finish(ring: &[f32], gap: f32, dropped: usize, out: &mut [f32]) -> OutlineAns
     if out.len() < size {
         return OutlineAnswer::Refused(Refusal::ShortOutput(size));
     }
-    let widest = max32(gap, reach(final_point(ring), first_point(ring)));
     let open = &ring[..size];
+    let widest = max32(gap, reach(final_point(ring), first_point(ring)));
     let turned = signed_area(open) < 0.0;
     put_ring(open, turned, out);
     OutlineAnswer::Made(Outline {

@@ -21,6 +21,9 @@ returns : tie.Need-returns
 unfolding ringOf
 returns c = λ ws xs e r g d. short-refused ws xs (now (c .before .before .before .before .args .out)) (c .before .open-count .result) e (c .before .open-count .ensures .0 (wholeLine ws xs .ring) r) (c .if1 .taken)
 
+slice-aggregate-open : tie.Need-slice-aggregate-open
+slice-aggregate-open c = simp length-take (omega (arith, c .before .before .open-count .ensures .1))
+
 final-point-requires : tie.Need-final-point-requires
 final-point-requires c κs = search needs
 
@@ -32,9 +35,6 @@ reach-requires c κs = search needs
 
 max32-requires : tie.Need-max32-requires
 max32-requires c κs = search needs
-
-slice-aggregate-open : tie.Need-slice-aggregate-open
-slice-aggregate-open c = simp length-take (omega (arith, c .before .before .before .before .before .before .open-count .ensures .1))
 
 signed-area-requires : tie.Need-signed-area-requires
 signed-area-requires c κs = simp length-take (omega arith)
@@ -53,8 +53,8 @@ returns-2 c =
     let n = c .before .before .before .before .before .before .before .before .before .before .before .open-count .ensures .0 (wholeLine ws xs .ring) r in
     let part = open-part (now (a .ring)) (wholeLine ws xs .ring) _ r n in
     let t = ap (λ (x : Float). lt x 0f) (c .before .before .before .before .signed-area .ensures (ringOf ws xs) part) in
-    ring-made ws xs (now (a .out)) _ (c .before .before .before .before .before .before .before .before .before .before .before .open-count .result) (a .dropped) (c .before .before .before .before .before .before .max32 .result) _ (c .before .before .put-ring .result) e n (c .before .before .before .before .before .before .before .before .before .before .if1 .left) d
-    (widest-is (wholeLine ws xs) (now (a .ring)) (a .gap) _ _ _ _ r g (c .before .before .before .before .before .before .max32 .ensures) (c .before .before .before .before .before .before .before .reach .ensures) (c .before .before .before .before .before .before .before .before .before .final-point .ensures) (c .before .before .before .before .before .before .before .before .first-point .ensures))
+    ring-made ws xs (now (a .out)) _ (c .before .before .before .before .before .before .before .before .before .before .before .open-count .result) (a .dropped) (c .before .before .before .before .before .max32 .result) _ (c .before .before .put-ring .result) e n (c .before .before .before .before .before .before .before .before .before .before .if1 .left) d
+    (widest-is (wholeLine ws xs) (now (a .ring)) (a .gap) _ _ _ _ r g (c .before .before .before .before .before .max32 .ensures) (c .before .before .before .before .before .before .reach .ensures) (c .before .before .before .before .before .before .before .before .final-point .ensures) (c .before .before .before .before .before .before .before .first-point .ensures))
     t (c .before .before .put-ring .ensures (ringOf ws xs) part)
 
 pub finish-spec : {M : Type 1} → statement M
@@ -64,11 +64,11 @@ finish-spec =
     open-count-requires
     mul-size
     returns
+    slice-aggregate-open
     final-point-requires
     first-point-requires
     reach-requires
     max32-requires
-    slice-aggregate-open
     signed-area-requires
     put-ring-requires
     same-length
