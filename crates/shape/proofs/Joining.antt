@@ -67,8 +67,9 @@ use Rattle.shape.specs.Outline.{
   shortFault,
   outlineAnswer,
   readOutline,
+  Outlines,
 }
-use Rattle.shape.specs.OutlineSteps.{Sane, Holds, Joins, Outlines}
+use Rattle.shape.specs.OutlineSteps.{Sane, Holds, Joins}
 use Rattle.shape.specs.Laws.Gather.{gather-next, gather-fits, gather-even}
 use Rattle.shape.specs.Laws.Lists.{Sound, sound}
 use Rattle.shape.specs.Laws.Memory.{sets-append, sets-front, take-sets-front}

@@ -1,4 +1,5 @@
 -- Document 01, "Junction outline": boundary segments joined to a ring. Definitions only. Assumes nothing.
+use mathlib.Core.Path.{_≡_}
 use mathlib.Core.Bool.{Bool, true, false, cond, _&&_}
 use mathlib.Core.List.{List, [], _∷_, _++_}
 use Prim.Native.Nat.{ℕ, zero, suc, _+_, _-_, _*_, _/_}
@@ -14,7 +15,7 @@ use Rattle.shape.specs.declared.junction_areas.Outline.{Outline}
 use Rattle.shape.specs.declared.junction_areas.OutlineAnswer.{OutlineAnswer}
 use Rattle.shape.specs.declared.junction_areas.OutlineAnswer.the-variants.{Made, Refused}
 use Rattle.shape.specs.Gather.{gather, any}
-use Rattle.shape.specs.Refusal.{Fault, fine, refuse, Answer, taken, refused, judge, numberOf, placeOf}
+use Rattle.shape.specs.Refusal.{Fault, fine, refuse, Answer, taken, refused, judge, leaves, numberOf, placeOf}
 use Rattle.shape.specs.Lists.{longer, uneven, pointAt, startOf, endOf, runBad, runOf}
 
 -- ---- distances, in x and y
@@ -49,7 +50,7 @@ firstOf s = pointAt s 0
 abbrev pub finalOf : List Float → Point
 finalOf s = pointAt s (length s / 3 - 1)
 
--- the numbers of those among the first m that are not empty
+-- segment k's number, if the segment is not empty; the numbers of those among the first m that are not
 unfoldable pub solidAt : List ℕ → ℕ → List ℕ
 solidAt ws k = cond (ltb (startOf 2 0 ws k) (endOf 2 0 ws k)) (k ∷ []) []
 
@@ -101,12 +102,12 @@ unfolding added pointFrom
 extended ring back s zero = ring
 extended ring back s (suc n) = added (extended ring back s n) (pointFrom back s n)
 
--- "The first is reversed if its start is strictly nearer the second's ends" s: the first, t: the second
+-- "The first is reversed if its start is strictly nearer the second's ends": s is the first and t the second
 unfoldable pub turnsFirst : List Float → List Float → Bool
 unfolding nearnessOf pointAt lt
 turnsFirst s t = lt (nearnessOf (firstOf s) (firstOf t) (finalOf t)) (nearnessOf (finalOf s) (firstOf t) (finalOf t))
 
--- "later ones if their end is strictly nearer the ring's end" end: the ring's end
+-- "later ones if their end is strictly nearer the ring's end"
 unfoldable pub turnsLater : Point → List Float → Bool
 unfolding reachOf pointAt lt
 turnsLater end s = lt (reachOf end (finalOf s)) (reachOf end (firstOf s))
@@ -243,3 +244,8 @@ unfoldable pub readOutline : OutlineAnswer → Answer Outline
 unfolding numberOf placeOf
 readOutline (Made o) = taken o
 readOutline (Refused r) = refused (numberOf r) (placeOf r)
+
+-- the promise of the call: its answer, and what it leaves in the output that held `before`
+pub record Outlines (ws : List ℕ) (xs before after : List Float) (answer : OutlineAnswer) : Type 0 where
+  pub given : readOutline answer ≡ outlineAnswer ws xs (length before)
+  pub memory : after ≡ leaves (outlineAnswer ws xs (length before)) (resultOf ws xs) before

@@ -17,11 +17,9 @@ use Rattle.vector.specs.declared.coords.Point.{Point}
 use Rattle.shape.specs.declared.junction_areas.Gap.{Gap}
 use Rattle.shape.specs.declared.junction_areas.Held.{Held}
 use Rattle.shape.specs.declared.junction_areas.Joined.{Joined}
-use Rattle.shape.specs.declared.junction_areas.OutlineAnswer.{OutlineAnswer}
 use Rattle.shape.specs.Gather.{any}
-use Rattle.shape.specs.Refusal.{leaves}
 use Rattle.shape.specs.Lists.{runBad}
-use Rattle.shape.specs.Outline.{lastOf, flat, solid, joined, outlineAnswer, readOutline, resultOf}
+use Rattle.shape.specs.Outline.{lastOf, flat, solid, joined}
 
 -- the sum of squares between two places, and the root that makes a distance of it
 unfoldable pub squaresBetween : Point → Point → Float
@@ -65,8 +63,3 @@ pub record Joins (ws : List ℕ) (xs blank memory : List Float) (k : ℕ) (j : J
   pub holds : Holds blank memory (joined ws xs (length (solid ws k)) .ring) (j .held)
   pub solids : j .segments ≡ length (solid ws k)
   pub gap : j .gap .root ≡ joined ws xs (length (solid ws k)) .gap
-
--- the promise of the whole call
-pub record Outlines (ws : List ℕ) (xs before after : List Float) (answer : OutlineAnswer) : Type 0 where
-  pub given : readOutline answer ≡ outlineAnswer ws xs (length before)
-  pub memory : after ≡ leaves (outlineAnswer ws xs (length before)) (resultOf ws xs) before

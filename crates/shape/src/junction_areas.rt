@@ -38,8 +38,9 @@ ghost use Rattle.shape.specs.Outline.{
   reversed,
   flat,
   outlineFault,
+  Outlines,
 };
-ghost use Rattle.shape.specs.OutlineSteps.{squaresBetween, rootedOf, Wide, Squares, Covers, Sane, Holds, Joins, Outlines};
+ghost use Rattle.shape.specs.OutlineSteps.{squaresBetween, rootedOf, Wide, Squares, Covers, Sane, Holds, Joins};
 use crate::lists::any_bad;
 use crate::lists::point_at;
 use crate::lists::record_word;
@@ -266,8 +267,8 @@ fn next_solid(segments: &[u32], k: usize) -> usize
     i
 }
 
-// Is the first segment s, with k, reversed? If there is no second, it is not.
-fn turns_alone(segments: &[u32], points: &[f32], s: &[f32], k: usize) -> bool
+// Is the first segment that is not empty, s with the number k, reversed? With no second it is not.
+fn first_turns(segments: &[u32], points: &[f32], s: &[f32], k: usize) -> bool
     requires { ⌜ (k < length (now segments) / 2) × (startOf 2 0 (now segments) k < endOf 2 0 (now segments) k) × (length (solid (now segments) k) ≡ 0) × (now s ≡ segmentOf (now segments) (now points) k) ⌝ }
     requires { ⌜ Sane (now segments) (now points) ⌝ }
     ensures { λ r. ⌜ ((end : Point) → r ≡ turnsAt (now (segments .entry)) (now (points .entry)) 0 end) ⌝ }
@@ -281,7 +282,7 @@ fn turns_alone(segments: &[u32], points: &[f32], s: &[f32], k: usize) -> bool
     turns_first(s, &points[a..e])
 }
 
-// How segment s, with number k and not empty, is joined to the ring that j tells of.
+// How segment s, with the number k and not empty, is joined to the ring that j tells of.
 fn turn_at(segments: &[u32], points: &[f32], s: &[f32], j: Joined, k: usize) -> Turn
     requires { ⌜ (k < length (now segments) / 2) × (startOf 2 0 (now segments) k < endOf 2 0 (now segments) k) × (j .segments ≡ length (solid (now segments) k)) × (now s ≡ segmentOf (now segments) (now points) k) × Covers (j .gap) ⌝ }
     requires { ⌜ Sane (now segments) (now points) ⌝ }
@@ -291,7 +292,7 @@ fn turn_at(segments: &[u32], points: &[f32], s: &[f32], j: Joined, k: usize) -> 
     let gap = j.gap;
     if j.segments == 0 {
         return Turn {
-            back: turns_alone(segments, points, s, k),
+            back: first_turns(segments, points, s, k),
             gap: gap,
         };
     }

@@ -7,12 +7,12 @@ use borrow.Author.Needs.{needs}
 use Rattle.shape.proofs.junction_areas.turn_at.Statement.{statement}
 use Rattle.shape.proofs.junction_areas.turn_at.Tie as tie
 
-turns-alone-requires : tie.Need-turns-alone-requires
-turns-alone-requires c κs = let p = c .before .before .before .before .before .before .before .pre in ((p .0 .0, p .0 .1, sym (p .0 .2) ∙ c .if1 .taken, p .0 .3), p .1)
+first-turns-requires : tie.Need-first-turns-requires
+first-turns-requires c κs = let p = c .before .before .before .before .before .before .before .pre in ((p .0 .0, p .0 .1, sym (p .0 .2) ∙ c .if1 .taken, p .0 .3), p .1)
 
 returns : tie.Need-returns
 unfolding gapAt
-returns c = rw (c .before .if1 .taken) (c .turns-alone .ensures (c .before .before .before .before .before .before .before .before .args .j .held .last), refl, c .before .before .before .before .before .before .before .before .pre .0 .4)
+returns c = rw (c .before .if1 .taken) (c .first-turns .ensures (c .before .before .before .before .before .before .before .before .args .j .held .last), refl, c .before .before .before .before .before .before .before .before .pre .0 .4)
 
 turn-later-requires : tie.Need-turn-later-requires
 turn-later-requires c κs = c .before .before .before .before .before .before .before .pre .0 .4
@@ -26,4 +26,4 @@ returns-2 c =
     (r .0, r .1, t .2)
 
 pub turn-at-spec : {M : Type 1} → statement M
-turn-at-spec = tie.close (tie.spec turns-alone-requires returns turn-later-requires returns-2)
+turn-at-spec = tie.close (tie.spec first-turns-requires returns turn-later-requires returns-2)

@@ -1,4 +1,4 @@
--- `shape::junction_areas::turns_alone` meets its contract. Assumes nothing.
+-- `shape::junction_areas::first_turns` meets its contract. Assumes nothing.
 use mathlib.Core.Path.{_∙_}
 use Prim.Native.Nat.{_/_, _<_}
 use native.Mathlib.Omega.{arith}
@@ -6,8 +6,8 @@ use denote.Ref.{now}
 use lib.ListN.{length}
 use Rattle.shape.proofs.Joining.{alone, followed, run-sound, segment-part}
 use borrow.Author.Needs.{needs}
-use Rattle.shape.proofs.junction_areas.turns_alone.Statement.{statement}
-use Rattle.shape.proofs.junction_areas.turns_alone.Tie as tie
+use Rattle.shape.proofs.junction_areas.first_turns.Statement.{statement}
+use Rattle.shape.proofs.junction_areas.first_turns.Tie as tie
 
 add-next-solid : tie.Need-add-next-solid
 add-next-solid c = search needs
@@ -51,8 +51,8 @@ returns-2 c =
     let t = rw (p .0 .3, segment-part (p .1) (c .before .before .before .before .before .next-solid .result) m _ _ (c .before .before .before .record-word .ensures .0) (c .before .before .record-word2 .ensures .0)) at (c .turns-first .ensures) in
     λ end. t ∙ followed (now (a .segments)) (now (a .points)) (a .k) (p .0 .0) (p .0 .1) (p .0 .2) end (c .before .before .before .before .before .next-solid .result) m (c .before .before .before .before .before .next-solid .ensures .1 m) (c .before .before .before .before .before .next-solid .ensures .0 .2)
 
-pub turns-alone-spec : {M : Type 1} → statement M
-turns-alone-spec =
+pub first-turns-spec : {M : Type 1} → statement M
+first-turns-spec =
     tie.close
     (tie.spec
     add-next-solid
