@@ -1,20 +1,20 @@
 -- Joining boundary segments: coordinates of a list of points, the segments that are not empty, and one segment more. Assumes nothing.
 use mathlib.Core.Path.{_≡_, refl, sym, ap, _∙_}
-use mathlib.Core.Bool.{Bool, true, false, cond, _&&_}
+use mathlib.Core.Bool.{Bool, true, false}
 use mathlib.Core.List.{List, [], _∷_, _++_}
 use Prim.Native.Nat.{ℕ, zero, suc, _+_, _-_, _*_, _/_, _≤_, _<_, min}
 use native.Mathlib.Nat.{zero-add, add-zero, one-mul}
 use native.Mathlib.Decide.{decLt}
-use native.Mathlib.Numerals.{add-one, sub-one}
+use native.Mathlib.Numerals.{add-one}
 use native.Mathlib.Omega.{arith}
 use borrow.Author.Tests.{lt-ltb, le-ltb, ltb-false}
 use lib.Dec.{ltb}
-use lib.Ieee.{Float, nan, lt, le}
+use lib.Ieee.{Float, lt, le}
 use lib.ListN.{length, getD, take, drop, length-append, length-take, length-drop, List·getD-append}
-use lib.Seq.{sets, take-length, getD-append-seam}
+use lib.Seq.{take-length, getD-append-seam}
 use Rattle.rounding.specs.Extremes.{maxOf}
 use Rattle.rounding.specs.Thresholds.{milli, tenth}
-use Rattle.vector.specs.Single.{_⊕_, 0f}
+use Rattle.vector.specs.Single.{_⊕_}
 use Rattle.vector.specs.declared.coords.Point.{Point}
 use Rattle.shape.specs.declared.junction_areas.Gap.{Gap}
 use Rattle.shape.specs.declared.junction_areas.Held.{Held}

@@ -11,7 +11,6 @@ use lib.Ieee.Positive.{positive}
 use Rattle.rounding.specs.Extremes.{maxOf}
 use Rattle.rounding.specs.Hypot.{squaresOf, hypotOf}
 use Rattle.rounding.specs.Root.{sqrtOf}
-use Rattle.rounding.specs.Width.{narrowOf}
 use Rattle.rounding.specs.Thresholds.{milli}
 use Rattle.rounding.specs.Laws.Order.{IsNum, le→Le, le-trans, le-num-left, le-num-right, le-of-eq, le-of-lt, le-of-not-lt, lt→not-le, lt-of-lt-of-le}
 use Rattle.rounding.specs.Laws.Rounding.{Signed, neg-anti, round-num}

@@ -4,13 +4,13 @@ ghost use mathlib.Core.Bool.{true};
 ghost use mathlib.Core.List.{List, [], _∷_};
 ghost use Prim.Native.Nat.{ℕ, _+_, _-_, _*_, _/_, _^_, _≤_, _<_};
 ghost use lib.Ieee.{Float, lt, le};
-ghost use lib.ListN.{length, take};
+ghost use lib.ListN.{length};
 ghost use Rattle.rounding.specs.Extremes.{maxOf};
 ghost use Rattle.rounding.specs.Hypot.{hypotOf};
 ghost use Rattle.rounding.specs.Thresholds.{milli};
 ghost use Rattle.vector.specs.declared.coords.Point.{Point};
 ghost use Rattle.shape.specs.Memory.{Put};
-ghost use Rattle.shape.specs.Lists.{pointAt, startOf, endOf, lastEnd};
+ghost use Rattle.shape.specs.Lists.{startOf, endOf, lastEnd};
 ghost use Rattle.shape.specs.Refusal.{found, fine};
 ghost use Rattle.shape.specs.Outline.{
   reachOf,

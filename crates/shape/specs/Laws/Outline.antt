@@ -10,7 +10,7 @@ use Rattle.rounding.specs.Thresholds.{tenth}
 use Rattle.rounding.specs.Laws.Order.{IsNum, le-num-right, lt→not-le, le-of-not-lt}
 use Rattle.rounding.specs.Laws.Extremes.{max-picks}
 use Rattle.vector.specs.declared.coords.Point.{Point}
-use Rattle.shape.specs.Outline.{lastOf, gapAt, Line, joined, widest}
+use Rattle.shape.specs.Outline.{lastOf, gapAt, joined, widest}
 
 max-number : (x y : Float) → IsNum x → IsNum (maxOf x y)
 max-number x y n = le-num-right x (maxOf x y) (max-picks x y .left n)

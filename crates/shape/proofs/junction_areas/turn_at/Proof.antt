@@ -3,7 +3,6 @@ use mathlib.Core.Path.{refl, sym, _∙_}
 use denote.Ref.{now}
 use Rattle.shape.specs.Outline.{gapAt}
 use Rattle.shape.proofs.Joining.{at-later}
-use borrow.Author.Needs.{needs}
 use Rattle.shape.proofs.junction_areas.turn_at.Statement.{statement}
 use Rattle.shape.proofs.junction_areas.turn_at.Tie as tie
 
