@@ -5,3 +5,6 @@ pub mod Surveys
 -- Lemmas of the function proofs.
 pub mod Strips
 pub mod Meshing
+-- Lemmas that the functions' proofs share.
+pub mod Joining
+pub mod Reaching

@@ -10,4 +10,6 @@ pub mod CasesElevation
 pub mod Strip
 pub mod SurfaceMesh
 pub mod CasesStrips
+pub mod Outline
+pub mod OutlineSteps
 pub mod Laws
