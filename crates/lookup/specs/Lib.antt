@@ -1,0 +1,2 @@
+-- The definitions, a file for each part of document 01's "Height under a wheel", and the laws about them.
+pub mod Mesh
