@@ -5,8 +5,10 @@ use mathlib.Core.List.{List}
 use lib.Dec.{ltb}
 use lib.ListN.{length, getD}
 use lib.Ieee.{Float}
+use Rattle.vector.specs.Coords.{upVector}
 use Rattle.vector.specs.declared.coords.Point.{Point}
-use Rattle.shape.specs.Lists.{pointAt}
+use Rattle.vector.specs.declared.coords.Vector.{Vector}
+use Rattle.shape.specs.Lists.{pointAt, vectorAt}
 use Rattle.lookup.specs.declared.mesh.Fetch.{Fetch}
 use Rattle.lookup.specs.declared.mesh.Fetch.the-variants.{Corners, Missing}
 
@@ -33,3 +35,8 @@ cornerOf vs is t j = pointAt vs (indexOf is t j)
 unfoldable pub cornersOf : List Float → List ℕ → ℕ → Fetch
 unfolding present
 cornersOf vs is t = cond (present vs is t) (Corners (cornerOf vs is t 0) (cornerOf vs is t 1) (cornerOf vs is t 2)) Missing
+
+-- the normal of vertex i: "a corner past the normals has normal (0, 0, 1)"
+unfoldable pub normalAt : List Float → ℕ → Vector
+unfolding vectorAt upVector
+normalAt ns i = cond (ltb i (length ns / 3)) (vectorAt ns i) upVector
