@@ -21,16 +21,13 @@ detOf a b c = (b .y ⊖ c .y) ⊗ (a .x ⊖ c .x) ⊕ (c .x ⊖ b .x) ⊗ (a .y 
 
 -- the weights of corners a and b at (x, y)
 unfoldable pub weightA : Point → Point → Point → Float → Float → Float
-unfolding detOf
 weightA a b c x y = ((b .y ⊖ c .y) ⊗ (x ⊖ c .x) ⊕ (c .x ⊖ b .x) ⊗ (y ⊖ c .y)) ⊘ detOf a b c
 
 unfoldable pub weightB : Point → Point → Point → Float → Float → Float
-unfolding detOf
 weightB a b c x y = ((c .y ⊖ a .y) ⊗ (x ⊖ c .x) ⊕ (a .x ⊖ c .x) ⊗ (y ⊖ c .y)) ⊘ detOf a b c
 
 -- what they leave of 1 is c's
 unfoldable pub weightsOf : Point → Point → Point → Float → Float → Weights
-unfolding detOf weightA weightB
 weightsOf a b c x y =
     record {
       det = detOf a b c;
@@ -50,17 +47,14 @@ slack = neg (single 0x38d1_b717)
 
 -- "|det| not below 1e-9, weights at least -1e-4"
 unfoldable pub insideOf : Weights → Bool
-unfolding absOf
 insideOf w = not (lt (absOf (w .det)) thinnest) && le slack (w .a) && le slack (w .b) && le slack (w .c)
 
 -- the weights of triangle t at (x, y)
 unfoldable pub weightsAt : List Float → List ℕ → ℕ → Float → Float → Weights
-unfolding weightsOf
 weightsAt vs is t x y = weightsOf (cornerOf vs is t 0) (cornerOf vs is t 1) (cornerOf vs is t 2) x y
 
 -- triangle t covers (x, y): "no corner is past the vertices and the test above holds"
 unfoldable pub covers : List Float → List ℕ → ℕ → Float → Float → Bool
-unfolding present insideOf weightsAt
 covers vs is t x y = present vs is t && insideOf (weightsAt vs is t x y)
 
 -- ---- height
@@ -70,33 +64,31 @@ liftOf w za zb zc = w .a ⊗ za ⊕ w .b ⊗ zb ⊕ w .c ⊗ zc
 
 -- the worked-out height of triangle t at (x, y)
 unfoldable pub heightOf : List Float → List ℕ → ℕ → Float → Float → Float
-unfolding liftOf weightsAt
 heightOf vs is t x y = liftOf (weightsAt vs is t x y) (cornerOf vs is t 0 .z) (cornerOf vs is t 1 .z) (cornerOf vs is t 2 .z)
 
 -- ---- normal
 
 -- the direction of the corners' normals by their weights
 unfoldable pub smoothOf : Weights → Vector → Vector → Vector → Vector
-unfolding normalizeOr vectorAdd vectorMul upVector
 smoothOf w na nb nc = normalizeOr (vectorAdd (vectorAdd (vectorMul na (w .a)) (vectorMul nb (w .b))) (vectorMul nc (w .c))) upVector
+
+unfoldable pub blendOf : List Float → List ℕ → ℕ → Weights → Vector
+blendOf ns is t w = smoothOf w (normalAt ns (indexOf is t 0)) (normalAt ns (indexOf is t 1)) (normalAt ns (indexOf is t 2))
 
 -- the direction of the triangle itself
 unfoldable pub flatOf : Point → Point → Point → Vector
-unfolding normalizeOr crossOf pointSub upVector
 flatOf a b c = normalizeOr (crossOf (pointSub b a) (pointSub c a)) upVector
 
 -- turned over where it points down
 unfoldable pub faceUp : Vector → Vector
-unfolding vectorNeg lt
 faceUp n = cond (lt (n .z) 0f) (vectorNeg n) n
 
 -- the normal of triangle t at (x, y); with more normals than vertices it is flat, and up where there is no such triangle
 unfoldable pub normalOf : List Float → List Float → List ℕ → ℕ → Float → Float → Vector
-unfolding present faceUp flatOf smoothOf weightsAt upVector
 normalOf vs ns is t x y =
     cond (present vs is t)
     (faceUp
     (cond (ltb (length vs / 3) (length ns / 3))
     (flatOf (cornerOf vs is t 0) (cornerOf vs is t 1) (cornerOf vs is t 2))
-    (smoothOf (weightsAt vs is t x y) (normalAt ns (indexOf is t 0)) (normalAt ns (indexOf is t 1)) (normalAt ns (indexOf is t 2)))))
+    (blendOf ns is t (weightsAt vs is t x y))))
     upVector

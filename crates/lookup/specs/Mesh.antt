@@ -38,5 +38,4 @@ cornersOf vs is t = cond (present vs is t) (Corners (cornerOf vs is t 0) (corner
 
 -- the normal of vertex i: "a corner past the normals has normal (0, 0, 1)"
 unfoldable pub normalAt : List Float → ℕ → Vector
-unfolding vectorAt upVector
 normalAt ns i = cond (ltb i (length ns / 3)) (vectorAt ns i) upVector

@@ -17,13 +17,11 @@ use Rattle.lookup.specs.Cover.{covers, heightOf, normalOf}
 
 -- the best so far after triangle t of height h, which replaces it unless h is at most its height
 unfoldable pub higherOf : Best → Float → ℕ → Best
-unfolding le
 higherOf Nothing h t = At h t
 higherOf (At g k) h t = cond (le h g) (At g k) (At h t)
 
 -- the best of the first n triangles of a sequence of triangle numbers; those that do not cover the point are passed over
 unfoldable pub scanOf : List Float → List ℕ → Float → Float → (ℕ → ℕ) → ℕ → Best
-unfolding higherOf covers heightOf
 scanOf vs is x y seq zero = Nothing
 scanOf vs is x y seq (suc i) =
     cond (covers vs is (seq i) x y) (higherOf (scanOf vs is x y seq i) (heightOf vs is (seq i) x y) (seq i)) (scanOf vs is x y seq i)
@@ -40,22 +38,18 @@ pub data Lookup : Type 0 where
   none : Lookup
 
 unfoldable pub lookupOf : Mesh → Float → Float → Best → Lookup
-unfolding normalOf
 lookupOf m x y (At h t) = gives h (normalOf (m .vertices) (m .normals) (m .indices) t x y) t
 lookupOf m x y Nothing = none
 
 -- the plain lookup goes through all triangles by their numbers
 unfoldable pub plainOf : Mesh → Float → Float → Lookup
-unfolding scanOf lookupOf
 plainOf m x y = lookupOf m x y (scanOf (m .vertices) (m .indices) x y (λ t. t) (triangles (m .indices)))
 
 -- the answer to the call, and document 01's values of each case of the code's
 unfoldable pub answerOf : Mesh → Float → Float → Answer Lookup
-unfolding meshFault judge plainOf
 answerOf m x y = judge (meshFault m) (taken (plainOf m x y))
 
 unfoldable pub readAnswer : Rattle.lookup.specs.declared.mesh.Answer.Answer → Answer Lookup
-unfolding numberOf placeOf
 readAnswer (plain.Found h n t) = taken (gives h n t)
 readAnswer plain.None = taken none
 readAnswer (plain.Refused r) = refused (numberOf r) (placeOf r)

@@ -7,7 +7,7 @@ ghost use lib.ListN.{length};
 ghost use lib.Ieee.{lt};
 ghost use Rattle.shape.specs.Lists.{pointAt, meshLists};
 ghost use Rattle.lookup.specs.Mesh.{cornersOf, normalAt, triangles};
-ghost use Rattle.lookup.specs.Cover.{detOf, weightA, weightB, weightsOf, insideOf, liftOf, faceUp, smoothOf, flatOf, normalOf};
+ghost use Rattle.lookup.specs.Cover.{detOf, weightA, weightB, weightsOf, insideOf, liftOf, faceUp, smoothOf, blendOf, flatOf, normalOf};
 ghost use Rattle.lookup.specs.Plain.{higherOf, scanOf, entryOf, readAnswer, answerOf};
 use rounding::extremes::abs32;
 use shape::lists::mesh_fault;
@@ -210,6 +210,18 @@ fn face_up(n: Vector) -> Vector
     n
 }
 
+// The direction of the normals of triangle t's corners by their weights. The triangle is there.
+fn blend(normals: &[f32], indices: &[u32], t: usize, w: Weights) -> Vector
+    requires { ⌜ t < triangles (now indices) ⌝ }
+    ensures { λ r. ⌜ r ≡ blendOf (now (normals .entry)) (now (indices .entry)) t w ⌝ }
+{
+    let at = 3 * t;
+    let na = normal_at(normals, wide(indices[at]));
+    let nb = normal_at(normals, wide(indices[at + 1]));
+    let nc = normal_at(normals, wide(indices[at + 2]));
+    w.smooth(na, nb, nc)
+}
+
 // The normal of triangle t at (x, y), from the corners' normals so that it does not snap at an edge. With
 // more normals than vertices it is the triangle's own. Up where there is no such triangle.
 pub fn normal_of(vertices: &[f32], normals: &[f32], indices: &[u32], t: usize, x: f32, y: f32) -> Vector
@@ -221,11 +233,7 @@ pub fn normal_of(vertices: &[f32], normals: &[f32], indices: &[u32], t: usize, x
     if vertices.len() / 3 < normals.len() / 3 {
         return face_up(flat(a, b, c));
     }
-    let at = 3 * t;
-    let na = normal_at(normals, wide(indices[at]));
-    let nb = normal_at(normals, wide(indices[at + 1]));
-    let nc = normal_at(normals, wide(indices[at + 2]));
-    face_up(weigh(a, b, c, x, y).smooth(na, nb, nc))
+    face_up(blend(normals, indices, t, weigh(a, b, c, x, y)))
 }
 
 // ---- the lookup

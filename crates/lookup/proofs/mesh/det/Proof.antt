@@ -1,11 +1,12 @@
+-- `lookup::mesh::det` meets its contract: the code is the definition. Assumes nothing.
+use mathlib.Core.Path.{refl}
+use Rattle.lookup.specs.Cover.{detOf}
 use Rattle.lookup.proofs.mesh.det.Statement.{statement}
 use Rattle.lookup.proofs.mesh.det.Tie as tie
-use Rattle.lookup.proofs.mesh.det.Reads as reads
-use Rattle.lookup.proofs.mesh.det.Lts as lts
 
--- src/mesh.rt:92:1
 returns : tie.Need-returns
-returns c = ?
+unfolding detOf
+returns c = refl
 
 pub det-spec : {M : Type 1} → statement M
 det-spec = tie.close (tie.spec returns)

@@ -1,31 +1,25 @@
+-- `lookup::mesh::flat` meets its contract, call by call. Assumes nothing.
+use Rattle.vector.specs.Coords.{upVector}
+use Rattle.lookup.specs.Cover.{flatOf}
 use borrow.Author.Needs.{needs}
 use Rattle.lookup.proofs.mesh.flat.Statement.{statement}
 use Rattle.lookup.proofs.mesh.flat.Tie as tie
-use Rattle.lookup.proofs.mesh.flat.Reads as reads
-use Rattle.lookup.proofs.mesh.flat.Lts as lts
-use Rattle.vector.proofs.coords.Point.sub.Reads as sub-reads
-use Rattle.vector.proofs.coords.Vector.cross.Reads as cross-reads
-use Rattle.vector.proofs.coords.Vector.normalize_or.Reads as normalize-or-reads
 
--- src/mesh.rt:200:5
 sub-requires : tie.Need-sub-requires
 sub-requires c κs = search needs
 
--- src/mesh.rt:200:20
 sub-requires-2 : tie.Need-sub-requires-2
 sub-requires-2 c κs = search needs
 
--- src/mesh.rt:200:5
 cross-requires : tie.Need-cross-requires
 cross-requires c κs = search needs
 
--- src/mesh.rt:200:5
 normalize-or-requires : tie.Need-normalize-or-requires
 normalize-or-requires c κs = search needs
 
--- src/mesh.rt:197:1
 returns : tie.Need-returns
-returns c = ?
+unfolding flatOf upVector
+returns c = rw (c .normalize-or .ensures, c .before .cross .ensures, c .before .before .sub2 .ensures, c .before .before .before .sub .ensures)
 
 pub flat-spec : {M : Type 1} → statement M
 flat-spec =

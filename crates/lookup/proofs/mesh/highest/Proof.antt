@@ -1,120 +1,96 @@
+-- `lookup::mesh::highest` meets its contract. The loop's invariant: `best` is the best of the first i numbers of the run. Assumes nothing.
+use Prim.Native.Nat.{_≤_, _-_}
+use mathlib.Core.Path.{_≡_, refl, sym, _∙_}
+use native.Mathlib.Omega.{arith}
+use lib.ListN.{length}
+use borrow.Author.Needs.{needs}
+use borrow.Author.Tests.{not-true, not-false}
+use Rattle.lookup.specs.Plain.{scanOf, entryOf}
+use Rattle.lookup.proofs.Turns.{passed-missing, passed-outside, taken-inside}
 use Rattle.lookup.proofs.mesh.highest.Statement.{statement}
 use Rattle.lookup.proofs.mesh.highest.Tie as tie
-use Rattle.lookup.proofs.mesh.highest.Reads as reads
-use Rattle.lookup.proofs.mesh.highest.Lts as lts
-use Rattle.lookup.proofs.mesh.Best.higher.Reads as higher-reads
-use Rattle.lookup.proofs.mesh.Weights.height.Reads as height-reads
-use Rattle.lookup.proofs.mesh.Weights.inside.Reads as inside-reads
-use Rattle.lookup.proofs.mesh.corners.Reads as corners-reads
-use Rattle.lookup.proofs.mesh.far.Reads as far-reads
-use Rattle.lookup.proofs.mesh.weigh.Reads as weigh-reads
-use Rattle.lookup.proofs.mesh.wide.Reads as wide-reads
 
 abbrev Inv-loop : tie.InvT-loop
-Inv-loop vertices indices run x y best₀ i₀ i-end best i = ?
+Inv-loop vertices indices run x y best₀ i₀ i-end best i = (i ≤ i-end) × (best ≡ scanOf vertices indices x y (entryOf run) i)
 
 abbrev μ-loop : tie.MeasureT-loop
-μ-loop vertices indices run x y best₀ i₀ i-end best i = ?
+μ-loop vertices indices run x y best₀ i₀ i-end best i = i-end - i
 
--- src/mesh.rt:238:5
 loop-holds : tie.Need-loop-holds Inv-loop μ-loop
-loop-holds c = ?
+unfolding scanOf
+loop-holds c = (search needs, refl)
 
--- src/mesh.rt:239:22
 mul-wide : tie.Need-mul-wide Inv-loop μ-loop
-mul-wide c = ?
+mul-wide c = search needs
 
--- src/mesh.rt:239:22
 shared-slice-read-wide : tie.Need-shared-slice-read-wide Inv-loop μ-loop
-shared-slice-read-wide c = ?
+shared-slice-read-wide c = search needs
 
--- src/mesh.rt:239:13
 wide-requires : tie.Need-wide-requires Inv-loop μ-loop
-wide-requires c κs = ?
+wide-requires c κs = search needs
 
--- src/mesh.rt:240:39
 corners-requires : tie.Need-corners-requires Inv-loop μ-loop
-corners-requires c κs = ?
+corners-requires c κs = search needs
 
--- src/mesh.rt:240:28
 enum-known-a : tie.Need-enum-known-a Inv-loop μ-loop
-enum-known-a c = ?
+enum-known-a c = search needs
 
--- src/mesh.rt:241:13
 enum-told : tie.Need-enum-told Inv-loop μ-loop
-enum-told c = ?
+enum-told c = search needs
 
--- src/mesh.rt:241:13
 add-i : tie.Need-add-i Inv-loop μ-loop
-add-i c = ?
+add-i c = omega (arith, c .before .before .before .before .before)
 
--- src/mesh.rt:238:5
 loop-less : tie.Need-loop-less Inv-loop μ-loop
-loop-less c = ?
+loop-less c = omega (arith, c .before .before .before .before .before)
 
--- src/mesh.rt:238:5
 loop-again : tie.Need-loop-again Inv-loop μ-loop
-loop-again c = ?
+loop-again c = (omega (arith, c .before .before .before .before .before), passed-missing _ _ _ _ _ _ (c .before .before .before .wide .ensures) _ (c .before .before .before .before .before .before .loop .inv .1) (sym (c .enum-told .given .1) ∙ c .before .before .corners .ensures))
 
--- src/mesh.rt:243:12
 far-requires : tie.Need-far-requires Inv-loop μ-loop
-far-requires c κs = ?
+far-requires c κs = search needs
 
--- src/mesh.rt:244:13
 add-i-2 : tie.Need-add-i-2 Inv-loop μ-loop
-add-i-2 c = ?
+add-i-2 c = omega (arith, c .before .before .before .before .before .before .before .before)
 
--- src/mesh.rt:238:5
 loop-less-2 : tie.Need-loop-less-2 Inv-loop μ-loop
-loop-less-2 c = ?
+loop-less-2 c = omega (arith, c .before .before .before .before .before .before .before .before)
 
--- src/mesh.rt:238:5
 loop-again-2 : tie.Need-loop-again-2 Inv-loop μ-loop
-loop-again-2 c = ?
+loop-again-2 c = (omega (arith, c .before .before .before .before .before .before .before .before), passed-outside _ _ _ _ _ _ (c .before .before .before .before .before .before .wide .ensures) _ (c .before .before .before .before .before .before .before .before .before .loop .inv .1) (sym (c .before .before .before .a .given .1) ∙ c .before .before .before .before .before .corners .ensures) (c .before .far .ensures (c .if1 .taken)))
 
--- src/mesh.rt:246:13
 weigh-requires : tie.Need-weigh-requires Inv-loop μ-loop
-weigh-requires c κs = ?
+weigh-requires c κs = search needs
 
--- src/mesh.rt:247:13
 inside-requires : tie.Need-inside-requires Inv-loop μ-loop
-inside-requires c κs = ?
+inside-requires c κs = search needs
 
--- src/mesh.rt:248:13
 add-i-3 : tie.Need-add-i-3 Inv-loop μ-loop
-add-i-3 c = ?
+add-i-3 c = omega (arith, c .before .before .before .before .before .before .before .before .before .before .before)
 
--- src/mesh.rt:238:5
 loop-less-3 : tie.Need-loop-less-3 Inv-loop μ-loop
-loop-less-3 c = ?
+loop-less-3 c = omega (arith, c .before .before .before .before .before .before .before .before .before .before .before)
 
--- src/mesh.rt:238:5
 loop-again-3 : tie.Need-loop-again-3 Inv-loop μ-loop
-loop-again-3 c = ?
+loop-again-3 c = (omega (arith, c .before .before .before .before .before .before .before .before .before .before .before), passed-outside _ _ _ _ _ _ (c .before .before .before .before .before .before .before .before .before .wide .ensures) _ (c .before .before .before .before .before .before .before .before .before .before .before .before .loop .inv .1) (sym (c .before .before .before .before .before .before .a .given .1) ∙ c .before .before .before .before .before .before .before .before .corners .ensures) (rw (← c .before .before .weigh .ensures) (sym (c .before .inside .ensures) ∙ not-true _ (c .if2 .taken))))
 
--- src/mesh.rt:250:28
 height-requires : tie.Need-height-requires Inv-loop μ-loop
-height-requires c κs = ?
+height-requires c κs = search needs
 
--- src/mesh.rt:250:9
 higher-requires : tie.Need-higher-requires Inv-loop μ-loop
-higher-requires c κs = ?
+higher-requires c κs = search needs
 
--- src/mesh.rt:238:9
 add-i-4 : tie.Need-add-i-4 Inv-loop μ-loop
-add-i-4 c = ?
+add-i-4 c = omega (arith, c .before .before .before .before .before .before .before .before .before .before .before .before .before)
 
--- src/mesh.rt:238:5
 loop-less-4 : tie.Need-loop-less-4 Inv-loop μ-loop
-loop-less-4 c = ?
+loop-less-4 c = omega (arith, c .before .before .before .before .before .before .before .before .before .before .before .before .before)
 
--- src/mesh.rt:238:5
 loop-again-4 : tie.Need-loop-again-4 Inv-loop μ-loop
-loop-again-4 c = ?
+loop-again-4 c = (omega (arith, c .before .before .before .before .before .before .before .before .before .before .before .before .before), c .higher .ensures ∙ rw (c .before .height .ensures, c .before .before .before .before .weigh .ensures) (taken-inside _ _ _ _ _ _ (c .before .before .before .before .before .before .before .before .before .before .before .wide .ensures) _ (c .before .before .before .before .before .before .before .before .before .before .before .before .before .before .loop .inv .1) (sym (c .before .before .before .before .before .before .before .before .a .given .1) ∙ c .before .before .before .before .before .before .before .before .before .before .corners .ensures) (rw (← c .before .before .before .before .weigh .ensures) (sym (c .before .before .before .inside .ensures) ∙ not-false _ (c .before .before .if2 .left)))))
 
--- src/mesh.rt:234:1
 returns : tie.Need-returns Inv-loop μ-loop
-returns c = ?
+returns c = let e : c .before .loop .i ≡ length (c .before .before .before .before .before .args .run .now) = omega arith in rw (← e) (c .before .loop .inv .1)
 
 pub highest-spec : {M : Type 1} → statement M
 highest-spec =

@@ -1,21 +1,21 @@
+-- `lookup::mesh::normal_at` meets its contract: the test picks the case of `normalAt`. Assumes nothing.
+use borrow.Author.Tests.{lt-ltb, le-ltb}
+use Rattle.vector.specs.Coords.{upVector}
+use Rattle.lookup.specs.Mesh.{normalAt}
 use borrow.Author.Needs.{needs}
 use Rattle.lookup.proofs.mesh.normal_at.Statement.{statement}
 use Rattle.lookup.proofs.mesh.normal_at.Tie as tie
-use Rattle.lookup.proofs.mesh.normal_at.Reads as reads
-use Rattle.lookup.proofs.mesh.normal_at.Lts as lts
-use Rattle.shape.proofs.lists.vector_at.Reads as vector-at-reads
 
--- src/mesh.rt:191:9
 vector-at-requires : tie.Need-vector-at-requires
 vector-at-requires c κs = search needs
 
--- src/mesh.rt:191:9
 returns : tie.Need-returns
-returns c = ?
+unfolding normalAt
+returns c = rw (lt-ltb _ _ (c .before .if1 .taken)) (c .vector-at .ensures)
 
--- src/mesh.rt:186:1
 returns-2 : tie.Need-returns-2
-returns-2 c = ?
+unfolding normalAt upVector
+returns-2 c = rw (le-ltb _ _ (c .if1 .left))
 
 pub normal-at-spec : {M : Type 1} → statement M
 normal-at-spec = tie.close (tie.spec vector-at-requires returns returns-2)

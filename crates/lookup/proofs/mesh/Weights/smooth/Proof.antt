@@ -1,39 +1,31 @@
+-- `lookup::mesh::Weights::smooth` meets its contract, call by call. Assumes nothing.
+use Rattle.vector.specs.Coords.{upVector}
+use Rattle.lookup.specs.Cover.{smoothOf}
 use borrow.Author.Needs.{needs}
 use Rattle.lookup.proofs.mesh.Weights.smooth.Statement.{statement}
 use Rattle.lookup.proofs.mesh.Weights.smooth.Tie as tie
-use Rattle.lookup.proofs.mesh.Weights.smooth.Reads as reads
-use Rattle.lookup.proofs.mesh.Weights.smooth.Lts as lts
-use Rattle.vector.proofs.coords.Vector.add.Reads as add-reads
-use Rattle.vector.proofs.coords.Vector.mul.Reads as mul-reads
-use Rattle.vector.proofs.coords.Vector.normalize_or.Reads as normalize-or-reads
 
--- src/mesh.rt:161:19
 mul-requires : tie.Need-mul-requires
 mul-requires c κs = search needs
 
--- src/mesh.rt:161:38
 mul-requires-2 : tie.Need-mul-requires-2
 mul-requires-2 c κs = search needs
 
--- src/mesh.rt:161:19
 add-requires : tie.Need-add-requires
 add-requires c κs = search needs
 
--- src/mesh.rt:161:58
 mul-requires-3 : tie.Need-mul-requires-3
 mul-requires-3 c κs = search needs
 
--- src/mesh.rt:161:13
 add-requires-2 : tie.Need-add-requires-2
 add-requires-2 c κs = search needs
 
--- src/mesh.rt:162:9
 normalize-or-requires : tie.Need-normalize-or-requires
 normalize-or-requires c κs = search needs
 
--- src/mesh.rt:158:5
 returns : tie.Need-returns
-returns c = ?
+unfolding smoothOf upVector
+returns c = rw (c .normalize-or .ensures, c .before .add2 .ensures, c .before .before .mul3 .ensures, c .before .before .before .add .ensures, c .before .before .before .before .mul2 .ensures, c .before .before .before .before .before .mul .ensures)
 
 pub smooth-spec : {M : Type 1} → statement M
 smooth-spec =
