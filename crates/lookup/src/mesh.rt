@@ -12,6 +12,7 @@ ghost use Rattle.lookup.specs.Plain.{higherOf, scanOf, entryOf, readAnsw
 use rounding::extremes::abs32;
 use shape::lists::mesh_fault;
 use shape::lists::vector_at;
+use shape::lists::word_at;
 use shape::refusal::Check;
 use shape::refusal::Refusal;
 use vector::coords::Point;
@@ -216,15 +217,22 @@ fn blend(normals: &[f32], indices: &[u32], t: usize, w: Weights) -> Vector
     ensures { λ r. ⌜ r ≡ blendOf (now (normals .entry)) (now (indices .entry)) t w ⌝ }
 {
     let at = 3 * t;
-    let na = normal_at(normals, wide(indices[at]));
-    let nb = normal_at(normals, wide(indices[at + 1]));
-    let nc = normal_at(normals, wide(indices[at + 2]));
+    let na = normal_at(normals, word_at(indices, at));
+    let nb = normal_at(normals, word_at(indices, at + 1));
+    let nc = normal_at(normals, word_at(indices, at + 2));
     w.smooth(na, nb, nc)
 }
 
 // The normal of triangle t at (x, y), from the corners' normals so that it does not snap at an edge. With
 // more normals than vertices it is the triangle's own. Up where there is no such triangle.
-pub fn normal_of(vertices: &[f32], normals: &[f32], indices: &[u32], t: usize, x: f32, y: f32) -> Vector
+pub fn normal_of(
+    vertices: &[f32],
+    normals: &[f32],
+    indices: &[u32],
+    t: usize,
+    x: f32,
+    y: f32,
+) -> Vector
     ensures { λ r. ⌜ r ≡ normalOf (now (vertices .entry)) (now (normals .entry)) (now (indices .entry)) t x y ⌝ }
 {
     let Fetch::Corners(a, b, c) = corners(vertices, indices, t) else {
@@ -282,7 +290,14 @@ fn highest_of_all(vertices: &[f32], indices: &[u32], x: f32, y: f32) -> Best
 }
 
 // The highest triangle over (x, y), of the lowest number among equals: its height, normal and number.
-pub fn height_at(vertices: &[f32], normals: &[f32], indices: &[u32], spans: &[u32], x: f32, y: f32) -> Answer
+pub fn height_at(
+    vertices: &[f32],
+    normals: &[f32],
+    indices: &[u32],
+    spans: &[u32],
+    x: f32,
+    y: f32,
+) -> Answer
     ensures { λ r. ⌜ readAnswer r ≡ answerOf (meshLists (now (vertices .entry)) (now (normals .entry)) (now (indices .entry)) (now (spans .entry))) x y ⌝ }
 {
     match mesh_fault(vertices, normals, indices, spans) {
