@@ -1,13 +1,10 @@
 -- What the fetch of a triangle's corners says of it, and how the scan goes on by one triangle. Assumes nothing.
-use Prim.Native.Nat.{ℕ, _+_, _/_, _<_}
+use Prim.Native.Nat.{ℕ, _+_}
 use native.Mathlib.Numerals.{add-one}
 use native.Mathlib.Omega.{arith}
-use mathlib.Core.Path.{_≡_, refl, sym, ap, subst, _∙_}
-use mathlib.Core.Bool.{Bool, true, false, _&&_, cond}
+use mathlib.Core.Path.{_≡_, refl, sym, ap, _∙_}
+use mathlib.Core.Bool.{Bool, true, false, cond}
 use mathlib.Core.List.{List}
-use borrow.Author.Tests.{ltb-true}
-use lib.Dec.{T}
-use lib.ListN.{length}
 use lib.Ieee.{Float}
 use Rattle.vector.specs.declared.coords.Point.{Point}
 use Rattle.lookup.specs.declared.mesh.Fetch.the-variants.{Corners, Missing}
@@ -16,16 +13,6 @@ use Rattle.lookup.specs.declared.mesh.Weights.{Weights}
 use Rattle.lookup.specs.Mesh.{present, cornersOf, cornerOf}
 use Rattle.lookup.specs.Cover.{covers, heightOf, weightsOf, weightsAt, insideOf, liftOf}
 use Rattle.lookup.specs.Plain.{scanOf, higherOf}
-
--- ---- tests
-
-pub and-left : (p q : Bool) → (p && q) ≡ true → p ≡ true
-and-left true q e = refl
-and-left false q e = e
-
-pub and-right : (p q : Bool) → (p && q) ≡ true → q ≡ true
-and-right true q e = e
-and-right false q e = absurd (subst T (sym e) tt)
 
 -- ---- the fetch
 
@@ -48,10 +35,6 @@ module _ (vs : List Float) (is : List ℕ) (t : ℕ) where
   pub missing : Missing ≡ cornersOf vs is t → present vs is t ≡ false
   unfolding cornersOf
   missing e = missing-when (present vs is t) _ _ _ e
-
-  pub present-below : present vs is t ≡ true → t < length is / 3
-  unfolding present
-  present-below e = ltb-true t (length is / 3) (and-left _ _ (and-left _ _ (and-left _ _ e)))
 
   pub weights-are : (x y : Float) {a b c : Point} → Corners a b c ≡ cornersOf vs is t → weightsOf a b c x y ≡ weightsAt vs is t x y
   unfolding weightsAt

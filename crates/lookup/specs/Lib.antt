@@ -3,3 +3,4 @@ pub mod Mesh
 pub mod Cover
 pub mod Plain
 pub mod Winner
+pub mod Laws

@@ -10,7 +10,8 @@ use Rattle.vector.specs.declared.coords.Point.{Point}
 use Rattle.lookup.specs.declared.mesh.Fetch.the-variants.{Corners, Missing}
 use Rattle.lookup.specs.Mesh.{cornersOf}
 use Rattle.lookup.specs.Cover.{weightsOf, faceUp, flatOf, blendOf, normalOf}
-use Rattle.lookup.proofs.Turns.{there, missing, present-below, weights-are}
+use Rattle.lookup.specs.Laws.Plain.{present-below}
+use Rattle.lookup.proofs.Turns.{there, missing, weights-are}
 use borrow.Author.Needs.{needs}
 use Rattle.lookup.proofs.mesh.normal_of.Statement.{statement}
 use Rattle.lookup.proofs.mesh.normal_of.Tie as tie
