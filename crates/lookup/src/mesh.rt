@@ -69,13 +69,13 @@ pub fn corners(vertices: &[f32], indices: &[u32], t: usize) -> Fetch
     ensures { λ r. ⌜ r ≡ cornersOf (now (vertices .entry)) (now (indices .entry)) t ⌝ }
 {
     if t < indices.len() / 3 {
+        let n = vertices.len() / 3;
         let at = 3 * t;
         let ia = wide(indices[at]);
-        let ib = wide(indices[at + 1]);
-        let ic = wide(indices[at + 2]);
-        let n = vertices.len() / 3;
         if ia < n {
+            let ib = wide(indices[at + 1]);
             if ib < n {
+                let ic = wide(indices[at + 2]);
                 if ic < n {
                     return Fetch::Corners(
                         vertex(vertices, ia),
@@ -124,12 +124,13 @@ pub fn weigh(a: Point, b: Point, c: Point, x: f32, y: f32) -> Weights
     }
 }
 
-// Is the point so far off that one weight tells? Where a's is above 2, b's or c's is below the slack.
-// Nearly all triangles of a mesh go by this one test, which branches the same way for all of them.
+// Is the point so far off that the weight of corner a tells? Above 2 in size it is itself too low, or
+// what it leaves for b and c is. Nearly all triangles of a mesh go by this one test, and all one way.
 fn far(a: Point, b: Point, c: Point, x: f32, y: f32) -> bool
     ensures { λ r. ⌜ (r ≡ true → insideOf (weightsOf a b c x y) ≡ false) ⌝ }
 {
-    abs32(weight_a(a, b, c, x, y)) > 2.0
+    let l1 = weight_a(a, b, c, x, y);
+    l1 * l1 > 4.0
 }
 
 impl Weights {

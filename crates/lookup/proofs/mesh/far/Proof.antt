@@ -7,11 +7,8 @@ use Rattle.lookup.proofs.mesh.far.Tie as tie
 weight-a-requires : tie.Need-weight-a-requires
 weight-a-requires c κs = search needs
 
-abs32-requires : tie.Need-abs32-requires
-abs32-requires c κs = search needs
-
 returns : tie.Need-returns
-returns c = λ e. far-outside _ _ _ _ _ (rw (← c .before .weight-a .ensures, ← c .abs32 .ensures) e)
+returns c = λ e. far-outside _ _ _ _ _ (rw (← c .weight-a .ensures) e)
 
 pub far-spec : {M : Type 1} → statement M
-far-spec = tie.close (tie.spec weight-a-requires abs32-requires returns)
+far-spec = tie.close (tie.spec weight-a-requires returns)
