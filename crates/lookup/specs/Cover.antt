@@ -20,8 +20,11 @@ unfoldable pub detOf : Point → Point → Point → Float
 detOf a b c = (b .y ⊖ c .y) ⊗ (a .x ⊖ c .x) ⊕ (c .x ⊖ b .x) ⊗ (a .y ⊖ c .y)
 
 -- the weights of corners a and b at (x, y)
+unfoldable pub overA : Point → Point → Float → Float → Float
+overA b c x y = (b .y ⊖ c .y) ⊗ (x ⊖ c .x) ⊕ (c .x ⊖ b .x) ⊗ (y ⊖ c .y)
+
 unfoldable pub weightA : Point → Point → Point → Float → Float → Float
-weightA a b c x y = ((b .y ⊖ c .y) ⊗ (x ⊖ c .x) ⊕ (c .x ⊖ b .x) ⊗ (y ⊖ c .y)) ⊘ detOf a b c
+weightA a b c x y = overA b c x y ⊘ detOf a b c
 
 unfoldable pub weightB : Point → Point → Point → Float → Float → Float
 weightB a b c x y = ((c .y ⊖ a .y) ⊗ (x ⊖ c .x) ⊕ (a .x ⊖ c .x) ⊗ (y ⊖ c .y)) ⊘ detOf a b c

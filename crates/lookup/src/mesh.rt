@@ -7,7 +7,7 @@ ghost use lib.ListN.{length};
 ghost use lib.Ieee.{lt};
 ghost use Rattle.shape.specs.Lists.{pointAt, meshLists};
 ghost use Rattle.lookup.specs.Mesh.{cornersOf, normalAt, triangles};
-ghost use Rattle.lookup.specs.Cover.{detOf, weightA, weightB, weightsOf, insideOf, liftOf, faceUp, smoothOf, blendOf, flatOf, normalOf};
+ghost use Rattle.lookup.specs.Cover.{detOf, overA, weightA, weightB, weightsOf, insideOf, liftOf, faceUp, smoothOf, blendOf, flatOf, normalOf};
 ghost use Rattle.lookup.specs.Plain.{higherOf, scanOf, entryOf, readAnswer, answerOf};
 use rounding::extremes::abs32;
 use shape::lists::mesh_fault;
@@ -96,11 +96,18 @@ fn det(a: Point, b: Point, c: Point) -> f32
     (b.y - c.y) * (a.x - c.x) + (c.x - b.x) * (a.y - c.y)
 }
 
+// The weight of corner a at (x, y), times the determinant.
+fn over_a(b: Point, c: Point, x: f32, y: f32) -> f32
+    ensures { λ r. ⌜ r ≡ overA b c x y ⌝ }
+{
+    (b.y - c.y) * (x - c.x) + (c.x - b.x) * (y - c.y)
+}
+
 // The weight of corner a at (x, y).
 fn weight_a(a: Point, b: Point, c: Point, x: f32, y: f32) -> f32
     ensures { λ r. ⌜ r ≡ weightA a b c x y ⌝ }
 {
-    ((b.y - c.y) * (x - c.x) + (c.x - b.x) * (y - c.y)) / det(a, b, c)
+    over_a(b, c, x, y) / det(a, b, c)
 }
 
 // The weight of corner b at (x, y).
@@ -126,10 +133,16 @@ pub fn weigh(a: Point, b: Point, c: Point, x: f32, y: f32) -> Weights
 
 // Is the point so far off that the weight of corner a tells? Above 2 in size it is itself too low, or
 // what it leaves for b and c is. Nearly all triangles of a mesh go by this one test, and all one way.
+// A NaN is left to the full test. Asking for it between the two sums keeps the compiler from weaving
+// them into one, which costs more than it saves.
 fn far(a: Point, b: Point, c: Point, x: f32, y: f32) -> bool
     ensures { λ r. ⌜ (r ≡ true → insideOf (weightsOf a b c x y) ≡ false) ⌝ }
 {
-    let l1 = weight_a(a, b, c, x, y);
+    let over = over_a(b, c, x, y);
+    if over != over {
+        return false;
+    }
+    let l1 = over / det(a, b, c);
     l1 * l1 > 4.0
 }
 
