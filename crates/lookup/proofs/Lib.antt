@@ -1,0 +1,3 @@
+-- The lemmas that the proofs of the functions cite.
+pub mod Turns
+pub mod Distant

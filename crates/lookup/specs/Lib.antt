@@ -1,0 +1,6 @@
+-- The definitions, a file for each part of document 01's "Height under a wheel", and the laws about them.
+pub mod Mesh
+pub mod Cover
+pub mod Plain
+pub mod Winner
+pub mod Laws

@@ -1,0 +1,2 @@
+// The two height lookups over a mesh, and the index that serves the second.
+pub mod mesh;
