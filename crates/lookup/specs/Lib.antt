@@ -1,2 +1,7 @@
 -- The definitions, a file for each part of document 01's "Height under a wheel", and the laws about them.
 pub mod Mesh
+pub mod Box
+pub mod Frame
+pub mod Index
+pub mod Consult
+pub mod Steps
