@@ -5,3 +5,4 @@ pub mod Frame
 pub mod Index
 pub mod Consult
 pub mod Steps
+pub mod Laws

@@ -1,0 +1,6 @@
+mod Frames
+mod Cells
+mod Sums
+mod Visit
+mod Runs
+mod Chain

@@ -1,0 +1,4 @@
+-- The laws about the definitions.
+pub mod Tables
+pub mod Parts
+pub mod Reading
