@@ -4,3 +4,4 @@ mod Sums
 mod Visit
 mod Runs
 mod Chain
+mod Heads

@@ -30,7 +30,7 @@ declares ws = cond (eqb (wordAt ws 1) 0) 9 (10 + wordAt ws 1 * wordAt ws 2 + wor
 
 -- why the words are foreign to a mesh of `count` triangles, before any cell is consulted
 unfoldable pub headFault : List ℕ → ℕ → Fault
-unfolding refuse sides declares
+unfolding refuse
 headFault ws count =
     refuse (ltb (length ws) 9) 4 (length ws)
     (refuse (not (eqb (wordAt ws 0) count)) 4 0
