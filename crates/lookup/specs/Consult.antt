@@ -41,12 +41,10 @@ headFault ws count =
 
 -- the point lies between words 3 to 6, or on one: nothing else is consulted, and no NaN
 unfoldable pub inside : List ℕ → Float → Float → Bool
-unfolding floatAt
 inside ws x y = (le (floatAt ws 3) x && le x (floatAt ws 5)) && (le (floatAt ws 4) y && le y (floatAt ws 6))
 
 -- its cell, row by row from the lowest
 unfoldable pub cellAt : List ℕ → Float → Float → ℕ
-unfolding floatAt col
 cellAt ws x y =
     col binary32 (floatAt ws 4) (floatAt ws 7) (wordAt ws 2) y * wordAt ws 1
     + col binary32 (floatAt ws 3) (floatAt ws 7) (wordAt ws 1) x
@@ -85,14 +83,14 @@ pub data Place : Type 0 where
   run : ℕ → ℕ → Place
 
 unfoldable pub runOf : List ℕ → ℕ → ℕ → Answer Place
-unfolding judge orElse startFault entryFault
+unfolding judge orElse
 runOf ws count c =
     let a = startAt ws c in
     let e = startAt ws (suc c) in
     judge (orElse (startFault ws c) (entryFault ws count (firstAt ws + a) (e - a))) (taken (run (firstAt ws + a) (firstAt ws + e)))
 
 unfoldable pub consultOf : List ℕ → ℕ → Float → Float → Answer Place
-unfolding judge headFault inside cellAt runOf
+unfolding judge
 consultOf ws count x y =
     judge (headFault ws count)
     (cond (not (eqb (wordAt ws 1) 0) && inside ws x y) (runOf ws count (cellAt ws x y)) (taken nowhere))
