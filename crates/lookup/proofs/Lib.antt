@@ -1,7 +1,4 @@
-mod Frames
-mod Cells
 mod Sums
 mod Visit
 mod Runs
 mod Chain
-mod Heads

@@ -2,8 +2,8 @@
 -- Definitions only. Assumes nothing.
 use Prim.Native.Nat.{ℕ, zero, suc, _+_, _-_, _*_}
 use mathlib.Core.Bool.{Bool, not, _&&_, _||_, cond}
-use mathlib.Core.List.{List}
-use lib.ListN.{length, getD}
+use mathlib.Core.List.{List, []}
+use lib.ListN.{length, getD, take, drop}
 use lib.Dec.{leb, ltb, eqb}
 use lib.Ieee.{Float, binary32, ofBits, le}
 use Rattle.rounding.specs.Column.{col}
@@ -81,6 +81,11 @@ startFault ws c =
 pub data Place : Type 0 where
   nowhere : Place
   run : ℕ → ℕ → Place
+
+-- the candidates at a place
+unfoldable pub runIn : List ℕ → Place → List ℕ
+runIn ws nowhere = []
+runIn ws (run a e) = take (e - a) (drop a ws)
 
 unfoldable pub runOf : List ℕ → ℕ → ℕ → Answer Place
 unfolding judge orElse

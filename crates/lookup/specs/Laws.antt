@@ -1,4 +1,8 @@
 -- The laws about the definitions.
 pub mod Tables
 pub mod Parts
+pub mod Cells
+pub mod Frames
 pub mod Reading
+pub mod Heads
+pub mod Index

@@ -21,7 +21,11 @@ use Rattle.lookup.specs.Consult.{wordAt, floatAt, sides, declares, headF
 use Rattle.lookup.specs.Steps.{Sided, spotOf}
 use Rattle.lookup.specs.declared.grid.Spot.{Spot}
 use Rattle.lookup.specs.declared.grid.Spot.the-variants.{Cell, Outside}
-use Rattle.lookup.proofs.Chain.{passed}
+
+-- a test that lets a call through
+pub passed : (b : Bool) (n p : ℕ) (a : Fault) → cond b (fault n p) a ≡ fine → (b ≡ false) × (a ≡ fine)
+passed true n p a e = absurd (let z : _≡_ {A = ℕ} 0 1 = cc in omega arith)
+passed false n p a e = (refl, e)
 
 -- ---- the sides
 
@@ -97,7 +101,7 @@ pub entry-none : (ws : List ℕ) (count from : ℕ) → entryFault ws count from
 unfolding entryFault
 entry-none ws count from = refl
 
-entry-step : (ws : List ℕ) (count from k : ℕ) → entryFault ws count from k ≡ fine → wordAt ws (from + k) < count → entryFault ws count from (suc k) ≡ fine
+pub entry-step : (ws : List ℕ) (count from k : ℕ) → entryFault ws count from k ≡ fine → wordAt ws (from + k) < count → entryFault ws count from (suc k) ≡ fine
 unfolding entryFault orElse refuse
 entry-step ws count from k e h = rw (e, lt-leb count (wordAt ws (from + k)) h)
 
