@@ -5,4 +5,5 @@ pub mod Cells
 pub mod Frames
 pub mod Reading
 pub mod Heads
+pub mod Extent
 pub mod Index
