@@ -1,3 +1,11 @@
 -- Laws about the definitions, for the proofs here and in the crates above.
 pub mod Scan
 pub mod Plain
+pub mod Tables
+pub mod Parts
+pub mod Cells
+pub mod Frames
+pub mod Reading
+pub mod Heads
+pub mod Extent
+pub mod Index

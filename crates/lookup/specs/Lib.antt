@@ -3,4 +3,9 @@ pub mod Mesh
 pub mod Cover
 pub mod Plain
 pub mod Winner
+pub mod Box
+pub mod Frame
+pub mod Index
+pub mod Consult
+pub mod Steps
 pub mod Laws

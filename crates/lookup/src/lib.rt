@@ -1,2 +1,3 @@
 // The two height lookups over a mesh, and the index that serves the second.
+pub mod grid;
 pub mod mesh;
