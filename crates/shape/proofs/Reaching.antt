@@ -12,7 +12,7 @@ use Rattle.rounding.specs.Extremes.{maxOf}
 use Rattle.rounding.specs.Hypot.{squaresOf, hypotOf}
 use Rattle.rounding.specs.Root.{sqrtOf}
 use Rattle.rounding.specs.Thresholds.{milli}
-use Rattle.rounding.specs.Laws.Order.{IsNum, le→Le, le-trans, le-num-left, le-num-right, le-of-eq, le-of-lt, le-of-not-lt, lt→not-le, lt-of-lt-of-le}
+use Rattle.rounding.specs.Laws.Order.{IsNum, le→Le, le-refl, le-trans, le-num-left, le-num-right, le-of-eq, le-of-lt, le-of-not-lt, lt→not-le, lt-of-lt-of-le}
 use Rattle.rounding.specs.Laws.Rounding.{Signed, neg-anti, round-num}
 use Rattle.rounding.specs.Laws.Products.{mul-num, mul-mono, mul-mono-signed-right}
 use Rattle.rounding.specs.Laws.Sums.{add-mono, add-num, add-num-left, add-num-right}
@@ -156,54 +156,46 @@ sum-num f (fin s m e) nan h k = le-num-right nought nan k
 sum-num f (fin s m e) (inf t) h k = tt
 sum-num f (fin s m e) (fin t n d) h k = add-num f (fin s m e) (fin t n d) tt tt
 
--- the square of 0.002 alone makes more than 1e-3
-past : T (lt milli (rootedOf (add binary64 (mul binary64 wide wide) nought)))
-unfolding rootedOf ofBits mul add lt
-past = tt
-
-past′ : T (lt milli (rootedOf (add binary64 nought (mul binary64 wide wide))))
-unfolding rootedOf ofBits mul add lt
-past′ = tt
-
-some : T (le nought (add binary64 (mul binary64 wide wide) nought))
-unfolding ofBits mul add le
-some = tt
-
-some′ : T (le nought (add binary64 nought (mul binary64 wide wide)))
-unfolding ofBits mul add le
-some′ = tt
-
-least-num : IsNum (mul binary64 wide wide)
-unfolding ofBits
-least-num = square-num binary64 wide tt
-
 true-of : (b : Bool) → T b → b ≡ true
 true-of true h = refl
 true-of false h = absurd h
 
-above : (x y : Float) → (s : Float) → T (lt milli (rootedOf s)) → T (le nought s) → T (le s (squaresOf x y)) → lt milli (hypotOf x y) ≡ true
-unfolding hypotOf rootedOf
-above x y s p q h = true-of (lt milli (hypotOf x y)) (lt-of-lt-of-le milli (rootedOf s) (hypotOf x y) p (rooted-grows s (squaresOf x y) q h))
+-- squares of at least s and t, whose sum is enough
+enough : (x y s t : Float) → T (le nought s) → T (le nought t) → T (le s (mul binary64 x x)) → T (le t (mul binary64 y y))
+    → T (lt milli (rootedOf (add binary64 s t))) → lt milli (hypotOf x y) ≡ true
+unfolding hypotOf rootedOf squaresOf
+enough x y s t a b h k p =
+    let x² = mul binary64 x x in
+    let y² = mul binary64 y y in
+    let n = sum-num binary64 s t a b in
+    let m = sum-num binary64 x² y² (le-trans nought s x² a h) (le-trans nought t y² b k) in
+    true-of (lt milli (hypotOf x y))
+    (lt-of-lt-of-le milli (rootedOf (add binary64 s t)) (hypotOf x y) p
+    (rooted-grows (add binary64 s t) (squaresOf x y) (sum-least binary64 s t a b n) (add-mono binary64 s x² t y² h k n m)))
+
+-- the square of 0.002 alone is enough, on either side
+some : T (le nought (mul binary64 wide wide))
+unfolding ofBits
+some = square-least binary64 wide (square-num binary64 wide tt)
+
+none : T (le nought nought)
+none = le-refl nought tt
+
+past-left : T (lt milli (rootedOf (add binary64 (mul binary64 wide wide) nought)))
+unfolding rootedOf ofBits mul add lt
+past-left = tt
+
+past-right : T (lt milli (rootedOf (add binary64 nought (mul binary64 wide wide))))
+unfolding rootedOf ofBits mul add lt
+past-right = tt
 
 pub far-in-x : (x y : Float) → Wide x → IsNum y → lt milli (hypotOf x y) ≡ true
-unfolding Wide squaresOf
-far-in-x x y w n =
-    let a = mul binary64 x x in
-    let b = mul binary64 y y in
-    let m = square-least binary64 y (square-num binary64 y n) in
-    let l = square-least binary64 x (le-num-right (mul binary64 wide wide) a w) in
-    above x y (add binary64 (mul binary64 wide wide) nought) past some
-    (add-mono binary64 (mul binary64 wide wide) a nought b w m (add-num binary64 (mul binary64 wide wide) nought least-num tt) (sum-num binary64 a b l m))
+unfolding Wide
+far-in-x x y w n = enough x y (mul binary64 wide wide) nought some none w (square-least binary64 y (square-num binary64 y n)) past-left
 
 pub far-in-y : (x y : Float) → Wide y → IsNum x → lt milli (hypotOf x y) ≡ true
-unfolding Wide squaresOf
-far-in-y x y w n =
-    let a = mul binary64 x x in
-    let b = mul binary64 y y in
-    let m = square-least binary64 x (square-num binary64 x n) in
-    let l = square-least binary64 y (le-num-right (mul binary64 wide wide) b w) in
-    above x y (add binary64 nought (mul binary64 wide wide)) past′ some′
-    (add-mono binary64 nought a (mul binary64 wide wide) b m w (le-num-right nought (add binary64 nought (mul binary64 wide wide)) some′) (sum-num binary64 a b m l))
+unfolding Wide
+far-in-y x y w n = enough x y nought (mul binary64 wide wide) none some (square-least binary64 x (square-num binary64 x n)) w past-right
 
 pub own-number : (x : Float) → eq x x ≡ true → IsNum x
 own-number x e = le-num-left x x (le-of-eq x x (subst T (sym e) tt))
