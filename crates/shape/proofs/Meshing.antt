@@ -258,7 +258,7 @@ pub few-lanes : (g : Given) → inputFault g ≡ fine → (lanesOf g ≤ 1024) �
 unfolding inputFault longer
 few-lanes g e =
     let h : length (g .lanes) ≤ 10 * 1024 =
-        ltb-false (10 * 1024) (length (g .lanes)) (first _ _ _ _ (rest _ _ _ _ (rest _ _ _ _ (rest _ _ _ _ (rest _ _ _ _ e))))) in
+    ltb-false (10 * 1024) (length (g .lanes)) (first _ _ _ _ (rest _ _ _ _ (rest _ _ _ _ (rest _ _ _ _ (rest _ _ _ _ e))))) in
     (omega arith, first _ _ _ _ e)
 
 module _ (g : Given) (at : At) (sizes : Sizes g (lanesOf g) at) (v n : List Float) (i s : List ℕ) where

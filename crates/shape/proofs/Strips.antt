@@ -73,10 +73,10 @@ pub rib-made : (l : Lane) (ks : List ℕ) (i : ℕ) {k : ℕ} {p a b : Point} {i
     → corner ≡ (ltb 0 i && ltb (i + 1) (length ks)) → h ≡ halfOf (l .widths) k (l .width) → m ≡ spreadOf corner inc out left h
     → a ≡ keptPoint (l .points) ks (i - 1) → b ≡ keptPoint (l .points) ks (min (i + 1) (length ks - 1)) → slope ≡ slopeOf way a b
     → record {
-        left = pointAdd p (vectorMul across (m .left));
-        right = pointSubVector p (vectorMul across (m .right));
-        up = normalizeOr (crossOf slope across) upVector;
-      }
+      left = pointAdd p (vectorMul across (m .left));
+      right = pointSubVector p (vectorMul across (m .right));
+      up = normalizeOr (crossOf slope across) upVector;
+    }
     ≡ ribAt l ks i
 unfolding ribAt
 rib-made l ks i ek ep ei eo ew el ea ec eh em eA eB es = rw (es, eA, eB, em, eh, ec, ea, el, ew, eo, ei, ep, ek)

@@ -267,11 +267,7 @@ fn grade(a: Point, b: Point) -> f32
     ensures { λ r. ⌜ r ≡ gradeOf a b ⌝ }
 {
     let run = horizontal(b.sub(a)).length();
-    if run > 1e-6 {
-        (b.z - a.z) / run
-    } else {
-        0.0
-    }
+    if run > 1e-6 { (b.z - a.z) / run } else { 0.0 }
 }
 
 fn index_before(i: usize) -> usize
@@ -572,15 +568,7 @@ fn span_size(n: usize) -> usize
     if n == 0 { 0 } else { 5 }
 }
 
-fn put_span(
-    out: &mut [u32],
-    at: usize,
-    id: usize,
-    v: usize,
-    w: usize,
-    i: usize,
-    j: usize,
-) -> usize
+fn put_span(out: &mut [u32], at: usize, id: usize, v: usize, w: usize, i: usize, j: usize) -> usize
     requires { ⌜ (at + 5 ≤ length (now out)) × (id < 2 ^ 32) × (v < 2 ^ 32) × (w < 2 ^ 32) × (i < 2 ^ 32) × (j < 2 ^ 32) ⌝ }
     ensures { λ r. ⌜ Put (now (out .entry)) (now (out .exit)) at (id ∷ v ∷ w ∷ i ∷ j ∷ []) r ⌝ }
 {
@@ -640,9 +628,26 @@ fn put_strip(
     }
     let ks = &kept[..n];
     let to = put_ribs(
-        points, tangents, widths, banks, width, ks, vertices, normals, indices, at,
+        points,
+        tangents,
+        widths,
+        banks,
+        width,
+        ks,
+        vertices,
+        normals,
+        indices,
+        at,
     );
-    let word = put_span(spans, at.word, id, at.floats / 3, to.floats / 3, at.index, to.index);
+    let word = put_span(
+        spans,
+        at.word,
+        id,
+        at.floats / 3,
+        to.floats / 3,
+        at.index,
+        to.index,
+    );
     At {
         floats: to.floats,
         index: to.index,
@@ -716,7 +721,18 @@ fn put_lane(
     let width = default_width(lanes, k);
     let id = record_word(lanes, 10, k, 0);
     put_strip(
-        p, t, w, b, width, id, kept, at, vertices, normals, indices, spans,
+        p,
+        t,
+        w,
+        b,
+        width,
+        id,
+        kept,
+        at,
+        vertices,
+        normals,
+        indices,
+        spans,
     )
 }
 
@@ -813,7 +829,18 @@ fn put_lanes(
     let mut k: usize = 0;
     while k < n {
         at = put_lane(
-            points, tangents, widths, banks, lanes, k, &mut kept, at, vertices, normals, indices, spans,
+            points,
+            tangents,
+            widths,
+            banks,
+            lanes,
+            k,
+            &mut kept,
+            at,
+            vertices,
+            normals,
+            indices,
+            spans,
         );
         k += 1;
     }
@@ -955,7 +982,16 @@ fn mesh_counted(
         Check::Faulty(r) => MeshAnswer::Refused(r),
         Check::Fine => {
             let e = put_lanes(
-                points, tangents, widths, banks, lanes, n, vertices, normals, indices, spans,
+                points,
+                tangents,
+                widths,
+                banks,
+                lanes,
+                n,
+                vertices,
+                normals,
+                indices,
+                spans,
             );
             MeshAnswer::Made(counts(e))
         }
@@ -987,11 +1023,28 @@ fn mesh_checked(
     );
     match f {
         Check::Faulty(r) => mesh_counted(
-            points, tangents, widths, banks, lanes, vertices, normals, indices, spans,
+            points,
+            tangents,
+            widths,
+            banks,
+            lanes,
+            vertices,
+            normals,
+            indices,
+            spans,
         ),
         Check::Fine => {
             let e = put_lanes(
-                points, tangents, widths, banks, lanes, n, vertices, normals, indices, spans,
+                points,
+                tangents,
+                widths,
+                banks,
+                lanes,
+                n,
+                vertices,
+                normals,
+                indices,
+                spans,
             );
             MeshAnswer::Made(counts(e))
         }
@@ -1018,7 +1071,15 @@ pub fn surface_mesh(
     match f {
         Check::Faulty(r) => MeshAnswer::Refused(r),
         Check::Fine => mesh_checked(
-            points, tangents, widths, banks, lanes, vertices, normals, indices, spans,
+            points,
+            tangents,
+            widths,
+            banks,
+            lanes,
+            vertices,
+            normals,
+            indices,
+            spans,
         ),
     }
 }
