@@ -4,3 +4,4 @@ pub mod Cover
 pub mod Plain
 pub mod Winner
 pub mod Laws
+pub mod Examples
