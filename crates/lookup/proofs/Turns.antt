@@ -9,7 +9,6 @@ use lib.Ieee.{Float}
 use Rattle.vector.specs.declared.coords.Point.{Point}
 use Rattle.lookup.specs.declared.mesh.Fetch.the-variants.{Corners, Missing}
 use Rattle.lookup.specs.declared.mesh.Best.{Best}
-use Rattle.lookup.specs.declared.mesh.Weights.{Weights}
 use Rattle.lookup.specs.Mesh.{present, cornersOf, cornerOf}
 use Rattle.lookup.specs.Cover.{covers, heightOf, weightsOf, weightsAt, insideOf, liftOf}
 use Rattle.lookup.specs.Plain.{scanOf, higherOf}

@@ -9,3 +9,4 @@ pub mod Index
 pub mod Consult
 pub mod Steps
 pub mod Laws
+pub mod Examples

@@ -1,6 +1,6 @@
 -- Document 01, "Height under a wheel": what the plain lookup answers. Definitions only. Assumes nothing.
 use Prim.Native.Nat.{ℕ, zero, suc}
-use mathlib.Core.Bool.{Bool, cond}
+use mathlib.Core.Bool.{cond}
 use mathlib.Core.List.{List}
 use lib.ListN.{getD}
 use lib.Ieee.{Float, le}

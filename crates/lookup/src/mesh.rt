@@ -4,7 +4,6 @@ ghost use mathlib.Core.Path.{_≡_};
 ghost use mathlib.Core.Bool.{true, false};
 ghost use Prim.Native.Nat.{_+_, _*_, _<_, _^_};
 ghost use lib.ListN.{length};
-ghost use lib.Ieee.{lt};
 ghost use Rattle.shape.specs.Lists.{pointAt, meshLists};
 ghost use Rattle.lookup.specs.Mesh.{cornersOf, normalAt, triangles};
 ghost use Rattle.lookup.specs.Cover.{detOf, overA, weightA, weightB, weightsOf, insideOf, liftOf, faceUp, smoothOf, blendOf, flatOf, normalOf};

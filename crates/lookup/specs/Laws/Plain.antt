@@ -1,25 +1,23 @@
 -- Demand 3, the plain lookup. Where no covering height is a NaN it answers the winner: the covering triangle of greatest height, the lowest-numbered among
 -- equals, with its worked-out height and its normal. It answers none exactly where no triangle covers the point, NaN or not.
 -- And what a scan over any run of triangle numbers has to do with the winner. Assumes nothing.
-use Prim.Native.Nat.{ℕ, _/_, _<_, _≤_}
+use Prim.Native.Nat.{ℕ, _<_, _≤_}
 use native.Mathlib.Omega.{arith}
 use native.Mathlib.Decide.{decLt}
-use mathlib.Core.Path.{_≡_, refl, sym, subst, ap, _∙_}
+use mathlib.Core.Path.{_≡_, refl, sym, subst, _∙_}
 use mathlib.Core.Bool.{Bool, true, false, _&&_}
 use mathlib.Core.List.{List}
 use mathlib.Core.Logic.{_↔_}
 use borrow.Author.Tests.{ltb-true}
 use lib.Dec.{T}
-use lib.ListN.{length}
 use lib.Ieee.{Float, le, eq}
-use Rattle.rounding.specs.Laws.Order.{IsNum, num-not-nan, le-antisym, ge-of-eq}
-use Rattle.vector.specs.declared.coords.Vector.{Vector}
+use Rattle.rounding.specs.Laws.Order.{num-not-nan, le-antisym, ge-of-eq}
 use Rattle.shape.specs.Lists.{Mesh, meshFault}
-use Rattle.shape.specs.Refusal.{Fault, fine, fault, Answer, taken, refused, judge}
+use Rattle.shape.specs.Refusal.{Fault, fine, fault, taken, judge}
 use Rattle.lookup.specs.declared.mesh.Best.{Best}
 use Rattle.lookup.specs.declared.mesh.Best.the-variants.{At, Nothing}
 use Rattle.lookup.specs.Mesh.{triangles, present}
-use Rattle.lookup.specs.Cover.{covers, heightOf}
+use Rattle.lookup.specs.Cover.{covers}
 use Rattle.lookup.specs.Plain.{scanOf, Lookup, gives, none, lookupOf, plainOf, answerOf}
 use Rattle.lookup.specs.Winner.{Covers, Uncovered, height, normal, Wins, NoNan, Right}
 use Rattle.lookup.specs.Laws.Scan.{Numbers, Leads, Leading, scan-leads, scan-found, scan-nothing}

@@ -4,9 +4,8 @@ use Prim.Native.Nat.{ℕ, zero, suc, _<_}
 use native.Mathlib.Omega.{arith}
 use native.Mathlib.Decide.{decLt}
 use mathlib.Core.Path.{_≡_, refl, sym, subst}
-use mathlib.Core.Bool.{Bool, true, false, not, cond}
+use mathlib.Core.Bool.{Bool, true, false, cond}
 use mathlib.Core.List.{List}
-use mathlib.Core.Logic.{⊎-elim}
 use lib.Dec.{T}
 use lib.Ieee.{Float, le}
 use Rattle.rounding.specs.Laws.Order.{IsNum, le-refl, le-trans, le-of-lt, lt-of-not-le, T-of, not-T-of}
