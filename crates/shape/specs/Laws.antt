@@ -2,3 +2,4 @@
 pub mod Gather
 pub mod Memory
 pub mod Lists
+pub mod Ears

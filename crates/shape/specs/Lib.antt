@@ -3,4 +3,6 @@ pub mod Gather
 pub mod Memory
 pub mod Refusal
 pub mod Lists
+pub mod Ears
+pub mod EarSteps
 pub mod Laws

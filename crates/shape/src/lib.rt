@@ -1,3 +1,4 @@
 // What is made of lanes, boundaries and elevation grids, and when a call is turned back.
+pub mod ears;
 pub mod lists;
 pub mod refusal;
