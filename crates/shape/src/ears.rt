@@ -2,14 +2,14 @@
 ghost use mathlib.Core.Path.{_≡_};
 ghost use mathlib.Core.Bool.{_&&_, not};
 ghost use mathlib.Core.List.{[], _∷_, _++_};
-ghost use Prim.Native.Nat.{_+_, _-_, _*_, _/_, _%_, _≤_, _<_};
+ghost use Prim.Native.Nat.{_+_, _-_, _*_, _/_, _≤_, _<_};
 ghost use lib.Dec.{eqb};
 ghost use lib.ListN.{length, take, drop};
 ghost use Rattle.shape.specs.Gather.{any};
 ghost use Rattle.shape.specs.Memory.{Put};
 ghost use Rattle.shape.specs.Lists.{pointAt};
 ghost use Rattle.shape.specs.Refusal.{leaves};
-ghost use Rattle.shape.specs.Ears.{cross, turnsLeft, inside, blocks, blocksAt, earOf, isEar, firstEar, earAt, lastEar, without, cutEars, upTo, earsOf, readEars, earsAnswer};
+ghost use Rattle.shape.specs.Ears.{before, after, cross, turnsLeft, inside, blocks, blocksAt, earOf, isEar, firstEar, earAt, lastEar, without, cutEars, upTo, earsOf, readEars, earsAnswer};
 ghost use Rattle.shape.specs.EarSteps.{Within, Cut};
 use crate::refusal::Refusal;
 use vector::coords::Point;
@@ -66,14 +66,14 @@ fn point(ring: &[f32], i: usize) -> Point
 // The positions before and after k in a closed ring of n.
 fn index_before(k: usize, n: usize) -> usize
     requires { ⌜ (k < n) × (n ≤ 1024) ⌝ }
-    ensures { λ r. ⌜ r ≡ (k + n - 1) % n ⌝ }
+    ensures { λ r. ⌜ (r ≡ before n k) × (r < n) ⌝ }
 {
     if k == 0 { n - 1 } else { k - 1 }
 }
 
 fn index_after(k: usize, n: usize) -> usize
     requires { ⌜ (k < n) × (n ≤ 1024) ⌝ }
-    ensures { λ r. ⌜ r ≡ (k + 1) % n ⌝ }
+    ensures { λ r. ⌜ (r ≡ after n k) × (r < n) ⌝ }
 {
     if k + 1 == n { 0 } else { k + 1 }
 }

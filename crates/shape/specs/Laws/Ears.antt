@@ -13,7 +13,7 @@ use borrow.Author.Tests.{ltb-true, ltb-false, lt-ltb, le-ltb, eqb-true, eq-eqb, 
 use lib.Dec.{ltb, eqb}
 use lib.Ieee.{Float, lt}
 use lib.ListN.{length, getD, take, drop, set, length-append, length-take, length-drop, length-set, List·getD-append}
-use lib.Seq.{sets, paste, paste-zero, paste-suc, take-paste, drop-paste, length-paste, take-nil, getD-take, getD-drop, getD-append-add, take-take, length-take-le}
+use lib.Seq.{sets, paste, paste-zero, paste-suc, take-paste, drop-paste, length-paste, take-nil, getD-take, getD-drop, getD-append-add, take-take, take-suc, drop-cons, append-snoc, set-at, length-take-le}
 use Rattle.vector.specs.Single.{0f}
 use Rattle.shape.specs.Gather.{gather, any}
 use Rattle.shape.specs.Memory.{Put}
@@ -171,6 +171,18 @@ moved-all l k n h fits =
     ∙ ap (λ (r : List ℕ). r ++ take j s) (sym (take-take k n l (omega arith)))
     ∙ ap (λ (r : List ℕ). take k (take n l) ++ r) (sym (drop-take (suc k) n l ∙ ap (λ (i : ℕ). take i s) g))
 
+-- ---- a copy of the front
+
+pub copied-next : (s d m : List ℕ) (i : ℕ) → m ≡ take i s ++ drop i d → i < length s → i < length d → set m i (getD s i 0) ≡ take (i + 1) s ++ drop (i + 1) d
+copied-next s d m i e hs hd =
+    let v = getD s i 0 in
+    let rest = drop (suc i) d in
+    rw (e, add-one)
+    (ap (λ (r : List ℕ). set (take i s ++ r) i v) (drop-cons d i 0 hd)
+    ∙ set-at (take i s) (getD d i 0) rest v i (length-take-le i s (omega arith))
+    ∙ sym (append-snoc (take i s) v rest)
+    ∙ ap (λ (r : List ℕ). r ++ rest) (sym (take-suc s i 0 hs)))
+
 -- ---- the numbers of a list are below m
 
 module _ (m : ℕ) where
@@ -281,6 +293,21 @@ ears-threes ring = elim (decLt (length ring / 3) 3) [ yes p ↦ none (length rin
 
     some : (n : ℕ) → 3 ≤ n → Threes (cutEars ring (n - 3) (upTo n)) (n - 2)
     some n h = let e : n - 2 ≡ suc (n - 3) = omega arith in rw e (threes-cut ring (n - 3) (upTo n))
+
+-- ---- the last three
+
+module _ (ring : List Float) (left : List ℕ) where
+  pub last-other : (length left ≡ 3 → ⊥) → lastEar ring left ≡ []
+  unfolding lastEar
+  last-other h = rw (ne-eqb (length left) 3 h)
+
+  pub last-flat : turnsLeft ring (at left 0) (at left 1) (at left 2) ≡ false → lastEar ring left ≡ []
+  unfolding lastEar
+  last-flat e = rw (sym (and-none (eqb (length left) 3) (turnsLeft ring (at left 0) (at left 1) (at left 2)) e))
+
+  pub last-some : length left ≡ 3 → turnsLeft ring (at left 0) (at left 1) (at left 2) ≡ true → lastEar ring left ≡ at left 0 ∷ at left 1 ∷ at left 2 ∷ []
+  unfolding lastEar
+  last-some h e = rw (eq-eqb (length left) 3 h, e)
 
 -- ---- one ear after another
 

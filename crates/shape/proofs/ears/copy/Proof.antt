@@ -1,53 +1,49 @@
+-- `shape::ears::copy` meets its contract: the first i words are copied. Assumes nothing.
+use mathlib.Core.Path.{_≡_, refl}
+use mathlib.Core.List.{_++_}
+use Prim.Native.Nat.{_+_, _-_, _<_, _≤_}
+use native.Mathlib.Omega.{arith}
+use denote.Ref.{now}
+use lib.ListN.{length, take, drop, length-set}
+use Rattle.shape.specs.Laws.Ears.{copied-next}
 use Rattle.shape.proofs.ears.copy.Statement.{statement}
 use Rattle.shape.proofs.ears.copy.Tie as tie
-use Rattle.shape.proofs.ears.copy.Reads as reads
-use Rattle.shape.proofs.ears.copy.Lts as lts
 
 abbrev Inv-loop : tie.InvT-loop
-Inv-loop from to₀ n i₀ to i = ?
+Inv-loop from to₀ n i₀ to i = (to ≡ take i from ++ drop i to₀) × (i ≤ n) × (length to ≡ length to₀)
 
 abbrev μ-loop : tie.MeasureT-loop
-μ-loop from to₀ n i₀ to i = ?
+μ-loop from to₀ n i₀ to i = n - i
 
--- src/ears.rt:277:5
 loop-holds : tie.Need-loop-holds Inv-loop μ-loop
-loop-holds c = ?
+loop-holds c = (refl, omega arith, refl)
 
--- src/ears.rt:278:17
 mul-to : tie.Need-mul-to Inv-loop μ-loop
-mul-to c = ?
+mul-to c = omega arith
 
--- src/ears.rt:278:17
 shared-slice-read-to : tie.Need-shared-slice-read-to Inv-loop μ-loop
-shared-slice-read-to c = ?
+shared-slice-read-to c = omega arith
 
--- src/ears.rt:278:9
 mul-to-2 : tie.Need-mul-to-2 Inv-loop μ-loop
-mul-to-2 c = ?
+mul-to-2 c = omega arith
 
--- src/ears.rt:278:9
 slice-write-to : tie.Need-slice-write-to Inv-loop μ-loop
-slice-write-to c = ?
+slice-write-to c = omega arith
 
--- src/ears.rt:279:9
 add-i : tie.Need-add-i Inv-loop μ-loop
-add-i c = ?
+add-i c = omega arith
 
--- src/ears.rt:277:5
 loop-less : tie.Need-loop-less Inv-loop μ-loop
-loop-less c = ?
+loop-less c = omega arith
 
--- src/ears.rt:277:5
 loop-again : tie.Need-loop-again Inv-loop μ-loop
-loop-again c = ?
+loop-again c = let a = c .before .before .before .args in let l = c .before .before .loop in (copied-next (now (a .from)) (now (a .to)) (l .to) (l .i) (l .inv .0) (omega arith) (omega arith), omega arith, simp length-set (l .inv .2))
 
--- src/ears.rt:272:1
 same-length : tie.Need-same-length Inv-loop μ-loop
-same-length c = ?
+same-length c = c .before .loop .inv .2
 
--- src/ears.rt:272:1
 returns : tie.Need-returns Inv-loop μ-loop
-returns c = ?
+returns c = let e : c .before .loop .i ≡ c .before .before .args .n = omega (arith, c .before .loop .inv .1) in rw e at (c .before .loop .inv .0)
 
 pub copy-spec : {M : Type 1} → statement M
 copy-spec =

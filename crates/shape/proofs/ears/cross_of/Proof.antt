@@ -1,11 +1,12 @@
+-- `shape::ears::cross_of` meets its contract. Assumes nothing.
+use mathlib.Core.Path.{refl}
+use Rattle.shape.specs.Ears.{cross}
 use Rattle.shape.proofs.ears.cross_of.Statement.{statement}
 use Rattle.shape.proofs.ears.cross_of.Tie as tie
-use Rattle.shape.proofs.ears.cross_of.Reads as reads
-use Rattle.shape.proofs.ears.cross_of.Lts as lts
 
--- src/ears.rt:26:1
 returns : tie.Need-returns
-returns c = ?
+unfolding cross
+returns c = refl
 
 pub cross-of-spec : {M : Type 1} → statement M
 cross-of-spec = tie.close (tie.spec returns)

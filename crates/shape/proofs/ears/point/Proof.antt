@@ -1,48 +1,40 @@
+-- `shape::ears::point` meets its contract: the point is in the list. Assumes nothing.
+use borrow.Author.Tests.{lt-ltb}
+use Rattle.shape.specs.Lists.{pointAt}
 use borrow.Author.Needs.{needs}
 use Rattle.shape.proofs.ears.point.Statement.{statement}
 use Rattle.shape.proofs.ears.point.Tie as tie
-use Rattle.shape.proofs.ears.point.Reads as reads
-use Rattle.shape.proofs.ears.point.Lts as lts
 
--- src/ears.rt:58:14
 mul-at : tie.Need-mul-at
 mul-at c = search needs
 
--- src/ears.rt:60:12
 mul-t4 : tie.Need-mul-t4
 mul-t4 c = search needs
 
--- src/ears.rt:60:12
 shared-slice-read-t6 : tie.Need-shared-slice-read-t6
 shared-slice-read-t6 c = search needs
 
--- src/ears.rt:61:17
 add-t7 : tie.Need-add-t7
 add-t7 c = search needs
 
--- src/ears.rt:61:12
 mul-t8 : tie.Need-mul-t8
 mul-t8 c = search needs
 
--- src/ears.rt:61:12
 shared-slice-read-t10 : tie.Need-shared-slice-read-t10
 shared-slice-read-t10 c = search needs
 
--- src/ears.rt:62:17
 add-t11 : tie.Need-add-t11
 add-t11 c = search needs
 
--- src/ears.rt:62:12
 mul-t12 : tie.Need-mul-t12
 mul-t12 c = search needs
 
--- src/ears.rt:62:12
 shared-slice-read-t14 : tie.Need-shared-slice-read-t14
 shared-slice-read-t14 c = search needs
 
--- src/ears.rt:54:1
 returns : tie.Need-returns
-returns c = ?
+unfolding pointAt
+returns c = simp (lt-ltb _ _ (c .before .before .before .pre))
 
 pub point-spec : {M : Type 1} → statement M
 point-spec =

@@ -1,61 +1,54 @@
+-- `shape::ears::remove` meets its contract: those from k up to i are moved down. Assumes nothing.
+use mathlib.Core.Path.{_≡_, refl, sym, ap, _∙_}
+use Prim.Native.Nat.{_+_, _-_, _<_, _≤_}
+use native.Mathlib.Omega.{arith}
+use denote.Ref.{now}
+use lib.ListN.{length}
+use Rattle.shape.specs.Laws.Ears.{moved, moved-none, moved-next, moved-length, moved-all}
 use Rattle.shape.proofs.ears.remove.Statement.{statement}
 use Rattle.shape.proofs.ears.remove.Tie as tie
-use Rattle.shape.proofs.ears.remove.Reads as reads
-use Rattle.shape.proofs.ears.remove.Lts as lts
 
 abbrev Inv-loop : tie.InvT-loop
-Inv-loop left₀ n k i₀ left i = ?
+Inv-loop left₀ n k i₀ left i = (left ≡ moved left₀ k (i - k)) × (k ≤ i) × (i < n)
 
 abbrev μ-loop : tie.MeasureT-loop
-μ-loop left₀ n k i₀ left i = ?
+μ-loop left₀ n k i₀ left i = n - i
 
--- src/ears.rt:208:5
 loop-holds : tie.Need-loop-holds Inv-loop μ-loop
-loop-holds c = ?
+loop-holds c = (moved-none _ _, omega arith, omega arith)
 
--- src/ears.rt:208:11
 add-loop : tie.Need-add-loop Inv-loop μ-loop
-add-loop c = ?
+add-loop c = omega arith
 
--- src/ears.rt:209:24
 add-left : tie.Need-add-left Inv-loop μ-loop
-add-left c = ?
+add-left c = omega arith
 
--- src/ears.rt:209:19
 mul-left : tie.Need-mul-left Inv-loop μ-loop
-mul-left c = ?
+mul-left c = let l = c .before .loop in let a = c .before .before .args in let e = ap length (l .inv .0) ∙ moved-length (now (a .left)) (a .k) (l .i - a .k) (omega arith) in omega (arith, e)
 
--- src/ears.rt:209:19
 slice-read-left : tie.Need-slice-read-left Inv-loop μ-loop
-slice-read-left c = ?
+slice-read-left c = let l = c .before .before .loop in let a = c .before .before .before .args in let e = ap length (l .inv .0) ∙ moved-length (now (a .left)) (a .k) (l .i - a .k) (omega arith) in omega (arith, e)
 
--- src/ears.rt:209:9
 mul-left-2 : tie.Need-mul-left-2 Inv-loop μ-loop
-mul-left-2 c = ?
+mul-left-2 c = let l = c .before .before .loop in let a = c .before .before .before .args in let e = ap length (l .inv .0) ∙ moved-length (now (a .left)) (a .k) (l .i - a .k) (omega arith) in omega (arith, e)
 
--- src/ears.rt:209:9
 slice-write-left : tie.Need-slice-write-left Inv-loop μ-loop
-slice-write-left c = ?
+slice-write-left c = let l = c .before .before .loop in let a = c .before .before .before .args in let e = ap length (l .inv .0) ∙ moved-length (now (a .left)) (a .k) (l .i - a .k) (omega arith) in omega (arith, e)
 
--- src/ears.rt:210:9
 add-i : tie.Need-add-i Inv-loop μ-loop
-add-i c = ?
+add-i c = omega arith
 
--- src/ears.rt:208:5
 loop-less : tie.Need-loop-less Inv-loop μ-loop
-loop-less c = ?
+loop-less c = omega arith
 
--- src/ears.rt:208:5
 loop-again : tie.Need-loop-again Inv-loop μ-loop
-loop-again c = ?
+loop-again c = let l = c .before .before .loop in let a = c .before .before .before .args in (moved-next (now (a .left)) (l .left) (a .k) (l .i) (l .inv .0) (l .inv .1) (omega arith), omega arith, omega arith)
 
--- src/ears.rt:203:1
 same-length : tie.Need-same-length Inv-loop μ-loop
-same-length c = ?
+same-length c = let l = c .before .loop in let a = c .before .before .args in ap length (l .inv .0) ∙ moved-length (now (a .left)) (a .k) (l .i - a .k) (omega arith)
 
--- src/ears.rt:203:1
 returns : tie.Need-returns Inv-loop μ-loop
-returns c = ?
+returns c = let l = c .before .loop in let a = c .before .before .args in let e : l .i ≡ a .n - 1 = omega (arith, l .inv .2) in rw (l .inv .0, e) (moved-all (now (a .left)) (a .k) (a .n) (c .before .before .pre .0) (c .before .before .pre .1))
 
 pub remove-spec : {M : Type 1} → statement M
 remove-spec =
