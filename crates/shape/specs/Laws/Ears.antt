@@ -17,8 +17,9 @@ use lib.Seq.{sets, paste, paste-zero, paste-suc, take-paste, drop-paste, length-
 use Rattle.vector.specs.Single.{0f}
 use Rattle.shape.specs.Gather.{gather, any}
 use Rattle.shape.specs.Memory.{Put}
-use Rattle.shape.specs.Lists.{pointAt}
-use Rattle.shape.specs.Ears.{cross, turnsLeft, isEar, least, firstEar, at, before, after, earAt, without, lastEar, cutEars, upTo, earsOf}
+use Rattle.shape.specs.Lists.{longer, uneven}
+use Rattle.shape.specs.Refusal.{Answer, taken, refused, leaves}
+use Rattle.shape.specs.Ears.{cross, turnsLeft, isEar, least, firstEar, at, before, after, earAt, without, lastEar, cutEars, upTo, earsOf, earsAnswer}
 use Rattle.shape.specs.EarSteps.{Within, Cut}
 use Rattle.shape.specs.Laws.Gather.{or-left, any-none, gather-next, gather-even}
 use Rattle.shape.specs.Laws.Memory.{put-none, put-then, put-length, put-front}
@@ -311,6 +312,17 @@ module _ (ring : List Float) (left : List ℕ) where
 
 -- ---- one ear after another
 
+-- no ear is found, or one is put and taken out
+module _ (ring : List Float) (n at k : ℕ) (left : List ℕ) (e : k ≡ firstEar ring (take n left)) where
+  pub cut-nothing : (ears : List ℕ) → k ≡ n → Cut ring n left left ears ears at at
+  cut-nothing ears h =
+      let none : ltb k n ≡ false = le-ltb k n (omega arith) in
+      record { ear = rw (← e, none) (put-none ears at); rest = λ l. absurd (omega (arith, e)) }
+
+  pub cut-did : {left′ ears ears′ : List ℕ} {next : ℕ} → k < n → Put ears ears′ at (earAt (take n left) k) next
+      → take (n - 1) left′ ≡ without (take n left) k → Cut ring n left left′ ears ears′ at next
+  cut-did h p r = let some : ltb k n ≡ true = lt-ltb k n h in record { ear = rw (← e, some) p; rest = λ l. rw (← e) r }
+
 -- part way: `done` is put, and with the ears of the n numbers left it is all
 pub record Cutting (ring : List Float) (left₀ left ears₀ ears : List ℕ) (points n next : ℕ) : Type 0 where
   pub done : List ℕ
@@ -318,6 +330,7 @@ pub record Cutting (ring : List Float) (left₀ left ears₀ ears : List ℕ) (p
   pub rest : done ++ cutEars ring (n - 3) (take n left) ≡ cutEars ring (points - 3) (take points left₀)
   pub few : next + 3 * n ≡ 3 * points
   pub fits : n ≤ length left
+  pub kept : length left ≡ length left₀
   pub within : Within (length ring / 3) (take n left)
 
 cut-none : (ring : List Float) (n : ℕ) (left : List ℕ) → 3 < n → length left ≡ n → ltb (firstEar ring left) n ≡ false → cutEars ring (n - 3) left ≡ []
@@ -339,6 +352,22 @@ cut-one ring n left h l e =
 ear-length : (left : List ℕ) (k : ℕ) → length (earAt left k) ≡ 3
 unfolding earAt
 ear-length left k = refl
+
+cut-end : (ring : List Float) (more : ℕ) (left : List ℕ) → more ≡ 0 → cutEars ring more left ≡ lastEar ring left
+unfolding cutEars
+cut-end ring more left e = rw e
+
+module _ (ring : List Float) {left₀ left ears₀ ears : List ℕ} {points n at : ℕ} (c : Cutting ring left₀ left ears₀ ears points n at) where
+  -- three or fewer: the last ear, if there is one
+  pub cut-finish : {ears′ : List ℕ} {next : ℕ} → n ≤ 3 → Put ears ears′ at (lastEar ring (take n left)) next
+      → Put ears₀ ears′ 0 (cutEars ring (points - 3) (take points left₀)) next
+  cut-finish h p = rw (← (c .rest), cut-end ring (n - 3) (take n left) (omega arith)) (put-then (c .put) p)
+
+-- at the start
+pub cut-start : (ring : List Float) (left ears : List ℕ) (points : ℕ) → points ≤ length left → Within (length ring / 3) (take points left)
+    → Cutting ring left left ears ears points points 0
+cut-start ring left ears points h w =
+    record { done = []; put = put-none ears 0; rest = refl; few = omega arith; fits = h; kept = refl; within = w }
 
 module _ (ring : List Float) {left₀ left left′ ears₀ ears ears′ : List ℕ} {points n at next : ℕ} (c : Cutting ring left₀ left ears₀ ears points n at)
   (d : Cut ring n left left′ ears ears′ at next) (h : 3 < n) where
@@ -371,6 +400,49 @@ module _ (ring : List Float) {left₀ left left′ ears₀ ears ears′ : List �
             rest = rw (r, append-assoc, ← (cut-one ring n (take n left) h l f)) (c .rest);
             few = omega (arith, p .ends, ear-length (take n left) k, c .few);
             fits = omega (arith, c .fits);
+            kept = same ∙ c .kept;
             within = rw r (within-without (length ring / 3) (take n left) k (c .within));
           }
       go false f p = absurd (e (p .ends ∙ add-zero at))
+
+-- ---- the call
+
+-- a refusal leaves the memory as it was
+pub stays : {A B : Type 0} {number place : ℕ} {answer : Answer A} (result old : List B) → refused number place ≡ answer → old ≡ leaves answer result old
+unfolding leaves
+stays result old e = rw (← e)
+
+-- an answer that is taken leaves the result at the front
+pub fills : {A B : Type 0} {a : A} {answer : Answer A} (result old now : List B) → taken a ≡ answer → now ≡ result ++ drop (length result) old → now ≡ leaves answer result old
+unfolding leaves
+fills result old now e h = rw (← e) h
+
+module _ (ring : List Float) (room : ℕ) where
+  pub ring-oversize : 3 * 1024 < length ring → refused 1 1024 ≡ earsAnswer ring room
+  unfolding earsAnswer longer
+  ring-oversize h = rw (lt-ltb (3 * 1024) (length ring) h)
+
+  module _ (fits : length ring ≤ 3 * 1024) where
+    pub ring-ragged : (length ring % 3 ≡ 0 → ⊥) → refused 2 0 ≡ earsAnswer ring room
+    unfolding earsAnswer longer uneven
+    ring-ragged h = rw (le-ltb (3 * 1024) (length ring) fits, ne-eqb (length ring % 3) 0 h)
+
+    module _ (even : length ring % 3 ≡ 0) where
+      pub ears-short : room < length (earsOf ring) → refused 3 (length (earsOf ring)) ≡ earsAnswer ring room
+      unfolding earsAnswer longer uneven
+      ears-short h = rw (le-ltb (3 * 1024) (length ring) fits, eq-eqb (length ring % 3) 0 even, lt-ltb room (length (earsOf ring)) h)
+
+      pub ears-taken : length (earsOf ring) ≤ room → taken (length (earsOf ring) / 3) ≡ earsAnswer ring room
+      unfolding earsAnswer longer uneven
+      ears-taken h = rw (le-ltb (3 * 1024) (length ring) fits, eq-eqb (length ring % 3) 0 even, le-ltb room (length (earsOf ring)) h)
+
+-- what is copied from the memory of the ears is the ears
+pub ears-copied : (ring : List Float) {m₀ m : List ℕ} (out out′ : List ℕ) {n : ℕ} → Put m₀ m 0 (earsOf ring) n → n ≤ length m₀ → out′ ≡ take n m ++ drop n out
+    → out′ ≡ earsOf ring ++ drop (length (earsOf ring)) out
+ears-copied ring {m₀} {m} out out′ {n} p h e =
+    let s : n ≡ length (earsOf ring) = p .ends ∙ zero-add (length (earsOf ring)) in
+    rw (← s) (rw (put-front p h) at e)
+
+-- there are at most 3,066 numbers
+pub ears-few : (ring : List Float) → length ring ≤ 3 * 1024 → length (earsOf ring) ≤ 3066
+ears-few ring h = omega (arith, ears-threes ring .few)
