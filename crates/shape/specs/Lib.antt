@@ -5,4 +5,5 @@ pub mod Refusal
 pub mod Lists
 pub mod Ears
 pub mod EarSteps
+pub mod CasesEars
 pub mod Laws
