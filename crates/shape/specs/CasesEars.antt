@@ -27,13 +27,13 @@ abbrev two : List Float
 two = 0f ∷ 0f ∷ 0f ∷ 4f ∷ 0f ∷ 0f ∷ []
 
 -- two lists of numbers are the same
-pub same : List ℕ → List ℕ → Bool
+unfoldable pub same : List ℕ → List ℕ → Bool
 same [] [] = true
 same [] (y ∷ ys) = false
 same (x ∷ xs) [] = false
 same (x ∷ xs) (y ∷ ys) = eqb x y && same xs ys
 
-pub all : List Bool → Bool
+unfoldable pub all : List Bool → Bool
 all [] = true
 all (b ∷ bs) = b && all bs
 
@@ -45,5 +45,5 @@ earCases =
     ∷ []
 
 pub ear-cases : all earCases ≡ true
-unfolding ofBits ofFields odd sub mul add neg le lt sum round units span climb size gather any pointAt ears.cross ears.inside ears.turnsLeft ears.blocks ears.earOf ears.isEar ears.least ears.firstEar ears.earAt ears.without ears.lastEar ears.cutEars ears.upTo earsOf
+unfolding ofBits ofFields odd sub mul add neg le lt sum round units span climb size gather any pointAt ears.cross ears.inside ears.turnsLeft ears.blocks ears.earOf ears.isEar ears.least ears.firstEar ears.earAt ears.without ears.lastEar ears.cutEars ears.upTo earsOf same all
 ear-cases = refl

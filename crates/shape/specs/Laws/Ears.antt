@@ -146,11 +146,11 @@ move l k j h =
     let low : k ≤ length l = omega arith in
     let same : suc k + j ≡ k + j + 1 = omega arith in
     let e : getD (paste l k s j) (k + j + 1) 0 ≡ getD s j 0 =
-        sym (getD-drop (k + j) (paste l k s j) 1 0)
-        ∙ ap (λ (r : List ℕ). getD r 1 0) (drop-paste l k s j low some)
-        ∙ getD-drop (k + j) l 1 0
-        ∙ ap (λ (i : ℕ). getD l i 0) (sym same)
-        ∙ sym (getD-drop (suc k) l j 0) in
+    sym (getD-drop (k + j) (paste l k s j) 1 0)
+    ∙ ap (λ (r : List ℕ). getD r 1 0) (drop-paste l k s j low some)
+    ∙ getD-drop (k + j) l 1 0
+    ∙ ap (λ (i : ℕ). getD l i 0) (sym same)
+    ∙ sym (getD-drop (suc k) l j 0) in
     ap (λ (v : ℕ). set (paste l k s j) (k + j) v) e ∙ paste-suc l k s j 0 (omega arith) fits
 
 pub moved-next : (l m : List ℕ) (k i : ℕ) → m ≡ moved l k (i - k) → k ≤ i → i + 1 < length l → set m i (getD m (i + 1) 0) ≡ moved l k (i + 1 - k)
@@ -370,7 +370,7 @@ cut-start ring left ears points h w =
     record { done = []; put = put-none ears 0; rest = refl; few = omega arith; fits = h; kept = refl; within = w }
 
 module _ (ring : List Float) {left₀ left left′ ears₀ ears ears′ : List ℕ} {points n at next : ℕ} (c : Cutting ring left₀ left ears₀ ears points n at)
-  (d : Cut ring n left left′ ears ears′ at next) (h : 3 < n) where
+    (d : Cut ring n left left′ ears ears′ at next) (h : 3 < n) where
   -- no ear: what is put is all
   pub cut-stop : next ≡ at → Put ears₀ ears′ 0 (cutEars ring (points - 3) (take points left₀)) at
   cut-stop e = go (ltb (firstEar ring (take n left)) n) refl (d .ear)
@@ -381,7 +381,7 @@ module _ (ring : List Float) {left₀ left left′ ears₀ ears ears′ : List �
       go false f p =
           let l : length (take n left) ≡ n = length-take-le n left (c .fits) in
           let all : c .done ≡ cutEars ring (points - 3) (take points left₀) =
-              sym (append-nil (c .done)) ∙ ap (λ (r : List ℕ). c .done ++ r) (sym (cut-none ring n (take n left) h l f)) ∙ c .rest in
+          sym (append-nil (c .done)) ∙ ap (λ (r : List ℕ). c .done ++ r) (sym (cut-none ring n (take n left) h l f)) ∙ c .rest in
           rw (← all) (record { memory = p .memory ∙ c .put .memory; ends = c .put .ends })
 
   -- one ear more
