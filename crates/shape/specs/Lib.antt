@@ -6,4 +6,5 @@ pub mod Lists
 pub mod Ears
 pub mod EarSteps
 pub mod CasesEars
+pub mod JunctionMesh
 pub mod Laws

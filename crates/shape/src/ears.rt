@@ -44,14 +44,14 @@ fn is_inside(a: Point, b: Point, c: Point, p: Point) -> bool
 
 // ---- the points left, by their numbers in the ring
 
-fn wide(i: u32) -> usize
+pub fn wide(i: u32) -> usize
     ensures { λ r. ⌜ r ≡ i ⌝ }
 {
     i as usize
 }
 
 // Point i of the ring.
-fn point(ring: &[f32], i: usize) -> Point
+pub fn point(ring: &[f32], i: usize) -> Point
     requires { ⌜ 3 * i + 2 < length (now ring) ⌝ }
     ensures { λ r. ⌜ r ≡ pointAt (now (ring .entry)) i ⌝ }
 {
@@ -166,8 +166,8 @@ fn first_ear(ring: &[f32], left: &[u32]) -> usize
 // ---- clipping
 
 // The numbers below n, in order.
-fn count_up(left: &mut [u32], n: usize)
-    requires { ⌜ (n ≤ length (now left)) × (n ≤ 1024) ⌝ }
+pub fn count_up(left: &mut [u32], n: usize)
+    requires { ⌜ (n ≤ length (now left)) × (n ≤ 65536) ⌝ }
     ensures { λ r. ⌜ Put (now (left .entry)) (now (left .exit)) 0 (upTo n) n ⌝ }
 {
     let mut i: usize = 0;

@@ -1,4 +1,5 @@
 // What is made of lanes, boundaries and elevation grids, and when a call is turned back.
 pub mod ears;
+pub mod junction;
 pub mod lists;
 pub mod refusal;
