@@ -40,7 +40,6 @@ partsOf step a b c = toUnsigned 64 (clampOf (ceilOf binary64 (div binary64 (long
 
 -- ear k of a ring, by its corners, and into how many parts each side is split
 unfoldable pub earCut : Float → List Float → List ℕ → ℕ → Ear
-unfolding partsOf pointAt
 earCut step ring ears k =
     let p = pointAt ring (getD ears (3 * k) 0) in
     let q = pointAt ring (getD ears (3 * k + 1) 0) in
@@ -96,22 +95,22 @@ module _ (f : Point → Point → Point → List Float) (at : ℕ → ℕ → Po
 
 -- of an ear, each lattice point brought to its height
 unfoldable pub earMesh : (Point → Point → Point → List Float) → (Point → Point) → Ear → List Float
-unfolding splitOf lattice
+unfolding splitOf
 earMesh f lift e = splitOf f (λ i j. lift (lattice e i j)) (e .n)
 
 -- of a list of ears
 unfoldable pub earsMesh : (Point → Point → Point → List Float) → (Point → Point) → Float → List Float → List ℕ → List Float
-unfolding earMesh earCut gather
+unfolding gather
 earsMesh f lift step ring ears = gather (λ k. earMesh f lift (earCut step ring ears k)) (length ears / 3)
 
 -- ---- the mesh
 
 unfoldable pub groundVertices : (Point → Point) → Float → List Float → List Float
-unfolding earsMesh cornersOf
+unfolding earsMesh
 groundVertices lift step ring = earsMesh cornersOf lift step ring (earsOf ring)
 
 unfoldable pub groundNormals : (Point → Point) → Float → List Float → List Float
-unfolding earsMesh normalsOf
+unfolding earsMesh
 groundNormals lift step ring = earsMesh normalsOf lift step ring (earsOf ring)
 
 -- ---- how many
@@ -122,11 +121,10 @@ sumOf f (suc n) = sumOf f n + f n
 
 -- "n times n triangles" of each ear, three vertices each
 unfoldable pub verticesOf : Float → List Float → List ℕ → ℕ → ℕ
-unfolding earCut
 verticesOf step ring ears k = let n = earCut step ring ears k .n in 3 * (n * n)
 
 unfoldable pub vertexCount : Float → List Float → List ℕ → ℕ
-unfolding sumOf verticesOf
+unfolding sumOf
 vertexCount step ring ears = sumOf (verticesOf step ring ears) (length ears / 3)
 
 -- the refusals of a result of so many vertices, and as many normals and indices, for outputs of the lengths v, n, i

@@ -3,3 +3,4 @@ pub mod Gather
 pub mod Memory
 pub mod Lists
 pub mod Ears
+pub mod JunctionMesh

@@ -1,6 +1,7 @@
 // The ground of a junction as triangles: the ears of its boundary, each split to the spacing of the
 // elevation grid.
 ghost use mathlib.Core.Path.{_≡_};
+ghost use mathlib.Core.List.{[], _∷_};
 ghost use Prim.Native.Nat.{_+_, _*_, _/_, _^_, _≤_, _<_};
 ghost use lib.ListN.{length};
 ghost use Rattle.shape.specs.Memory.{Put};
@@ -95,21 +96,25 @@ fn face(a: Point, b: Point, c: Point) -> Vector
     if v.z < 0.0 { v.mul(-1.0) } else { v }
 }
 
+// Three singles into the memory.
+fn put_singles(out: &mut [f32], at: usize, x: f32, y: f32, z: f32) -> usize
+    requires { ⌜ at + 3 ≤ length (now out) ⌝ }
+    ensures { λ r. ⌜ Put (now (out .entry)) (now (out .exit)) at (x ∷ y ∷ z ∷ []) r ⌝ }
+{
+    out[at] = x;
+    out[at + 1] = y;
+    out[at + 2] = z;
+    at + 3
+}
+
 // Three points into the memory.
 fn put_corners(out: &mut [f32], at: usize, a: Point, b: Point, c: Point) -> usize
     requires { ⌜ at + 9 ≤ length (now out) ⌝ }
     ensures { λ r. ⌜ Put (now (out .entry)) (now (out .exit)) at (cornersOf a b c) r ⌝ }
 {
-    out[at] = a.x;
-    out[at + 1] = a.y;
-    out[at + 2] = a.z;
-    out[at + 3] = b.x;
-    out[at + 4] = b.y;
-    out[at + 5] = b.z;
-    out[at + 6] = c.x;
-    out[at + 7] = c.y;
-    out[at + 8] = c.z;
-    at + 9
+    let q = put_singles(out, at, a.x, a.y, a.z);
+    let r = put_singles(out, q, b.x, b.y, b.z);
+    put_singles(out, r, c.x, c.y, c.z)
 }
 
 // A normal three times into the memory.
@@ -117,16 +122,9 @@ fn put_thrice(out: &mut [f32], at: usize, v: Vector) -> usize
     requires { ⌜ at + 9 ≤ length (now out) ⌝ }
     ensures { λ r. ⌜ Put (now (out .entry)) (now (out .exit)) at (thrice v) r ⌝ }
 {
-    out[at] = v.x;
-    out[at + 1] = v.y;
-    out[at + 2] = v.z;
-    out[at + 3] = v.x;
-    out[at + 4] = v.y;
-    out[at + 5] = v.z;
-    out[at + 6] = v.x;
-    out[at + 7] = v.y;
-    out[at + 8] = v.z;
-    at + 9
+    let q = put_singles(out, at, v.x, v.y, v.z);
+    let r = put_singles(out, q, v.x, v.y, v.z);
+    put_singles(out, r, v.x, v.y, v.z)
 }
 
 // A triangle with its own vertices, and its normal at each.

@@ -1,50 +1,48 @@
+-- `shape::junction::count_vertices` meets its contract: the vertices of the first k ears. Assumes nothing.
+use mathlib.Core.Path.{_≡_, refl, sym, ap, _∙_}
+use Prim.Native.Nat.{_+_, _-_, _*_, _/_, _≤_}
+use native.Mathlib.Omega.{arith}
+use denote.Ref.{now}
+use lib.ListN.{length}
+use Rattle.shape.specs.JunctionMesh.{sumOf, verticesOf, vertexCount}
+use Rattle.shape.specs.Laws.JunctionMesh.{square-few, sum-next, vertices-of}
 use Rattle.shape.proofs.junction.count_vertices.Statement.{statement}
 use Rattle.shape.proofs.junction.count_vertices.Tie as tie
-use Rattle.shape.proofs.junction.count_vertices.Reads as reads
-use Rattle.shape.proofs.junction.count_vertices.Lts as lts
-use Rattle.shape.proofs.junction.ear_at.Reads as ear-at-reads
 
 abbrev Inv-loop : tie.InvT-loop
-Inv-loop ring ears step total₀ k₀ total k = ?
+Inv-loop ring ears step total₀ k₀ total k = (total ≡ sumOf (verticesOf step ring ears) k) × (total ≤ 12288 * k) × (k ≤ length ears / 3)
 
 abbrev μ-loop : tie.MeasureT-loop
-μ-loop ring ears step total₀ k₀ total k = ?
+μ-loop ring ears step total₀ k₀ total k = length ears / 3 - k
 
--- src/junction.rt:158:5
 loop-holds : tie.Need-loop-holds Inv-loop μ-loop
-loop-holds c = ?
+unfolding sumOf
+loop-holds c = (refl, omega arith, omega arith)
 
--- src/junction.rt:159:17
 ear-at-requires : tie.Need-ear-at-requires Inv-loop μ-loop
-ear-at-requires c κs = ?
+ear-at-requires c κs = (omega arith, c .before .before .before .before .pre .1)
 
--- src/junction.rt:160:23
 mul-total : tie.Need-mul-total Inv-loop μ-loop
-mul-total c = ?
+mul-total c = let h = square-few (c .ear-at .result .n) (c .ear-at .ensures .1) in record { fits = omega arith }
 
--- src/junction.rt:160:18
 mul-total-2 : tie.Need-mul-total-2 Inv-loop μ-loop
-mul-total-2 c = ?
+mul-total-2 c = let h = square-few (c .ear-at .result .n) (c .ear-at .ensures .1) in record { fits = omega arith }
 
--- src/junction.rt:160:9
 add-total : tie.Need-add-total Inv-loop μ-loop
-add-total c = ?
+add-total c = let h = square-few (c .ear-at .result .n) (c .ear-at .ensures .1) in record { fits = omega (arith, c .before .before .loop .inv .1) }
 
--- src/junction.rt:161:9
 add-k : tie.Need-add-k Inv-loop μ-loop
-add-k c = ?
+add-k c = omega arith
 
--- src/junction.rt:158:5
 loop-less : tie.Need-loop-less Inv-loop μ-loop
-loop-less c = ?
+loop-less c = omega arith
 
--- src/junction.rt:158:5
 loop-again : tie.Need-loop-again Inv-loop μ-loop
-loop-again c = ?
+loop-again c = let h = square-few (c .ear-at .result .n) (c .ear-at .ensures .1) in let a = c .before .before .before .before .before .args in let l = c .before .before .loop in (rw (sum-next (verticesOf (a .step) (now (a .ring)) (now (a .ears))) (l .k), ← (vertices-of (a .step) (now (a .ring)) (now (a .ears)) (l .k) (c .ear-at .result) (c .ear-at .ensures .0)), ← (l .inv .0)), omega (arith, l .inv .1), omega arith)
 
--- src/junction.rt:152:1
 returns : tie.Need-returns Inv-loop μ-loop
-returns c = ?
+unfolding vertexCount
+returns c = let l = c .before .loop in let a = c .before .before .before .before .args in let e : l .k ≡ length (now (a .ears)) / 3 = omega (arith, l .inv .2) in (rw e at (l .inv .0), omega (arith, l .inv .1))
 
 pub count-vertices-spec : {M : Type 1} → statement M
 count-vertices-spec =

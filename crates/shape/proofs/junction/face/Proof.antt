@@ -1,40 +1,32 @@
+-- `shape::junction::face` meets its contract. Assumes nothing.
+use Rattle.vector.specs.Coords.{upVector}
+use Rattle.shape.specs.Laws.JunctionMesh.{face-down, face-up}
 use borrow.Author.Needs.{needs}
 use Rattle.shape.proofs.junction.face.Statement.{statement}
 use Rattle.shape.proofs.junction.face.Tie as tie
-use Rattle.shape.proofs.junction.face.Reads as reads
-use Rattle.shape.proofs.junction.face.Lts as lts
-use Rattle.vector.proofs.coords.Point.sub.Reads as sub-reads
-use Rattle.vector.proofs.coords.Vector.cross.Reads as cross-reads
-use Rattle.vector.proofs.coords.Vector.mul.Reads as mul-reads
-use Rattle.vector.proofs.coords.Vector.normalize_or.Reads as normalize-or-reads
 
--- src/junction.rt:94:13
 sub-requires : tie.Need-sub-requires
 sub-requires c κs = search needs
 
--- src/junction.rt:94:28
 sub-requires-2 : tie.Need-sub-requires-2
 sub-requires-2 c κs = search needs
 
--- src/junction.rt:94:13
 cross-requires : tie.Need-cross-requires
 cross-requires c κs = search needs
 
--- src/junction.rt:94:9
 normalize-or-requires : tie.Need-normalize-or-requires
 normalize-or-requires c κs = search needs
 
--- src/junction.rt:95:20
 mul-requires : tie.Need-mul-requires
 mul-requires c κs = search needs
 
--- src/junction.rt:91:1
 returns : tie.Need-returns
-returns c = ?
+unfolding upVector
+returns c = let a = c .before .before .before .before .before .before .before .args in let e = rw (c .before .before .before .before .cross .ensures, c .before .before .before .before .before .sub2 .ensures, c .before .before .before .before .before .before .sub .ensures) at (c .before .before .before .normalize-or .ensures) in rw (c .mul .ensures) (face-down (a .a) (a .b) (a .c) _ e (c .before .if1 .taken))
 
--- src/junction.rt:91:1
 returns-2 : tie.Need-returns-2
-returns-2 c = ?
+unfolding upVector
+returns-2 c = let a = c .before .before .before .before .before .before .args in let e = rw (c .before .before .before .cross .ensures, c .before .before .before .before .sub2 .ensures, c .before .before .before .before .before .sub .ensures) at (c .before .before .normalize-or .ensures) in face-up (a .a) (a .b) (a .c) _ e (c .if1 .left)
 
 pub face-spec : {M : Type 1} → statement M
 face-spec =
