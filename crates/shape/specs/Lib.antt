@@ -6,5 +6,9 @@ pub mod Lists
 pub mod Ears
 pub mod EarSteps
 pub mod CasesEars
+pub mod Double
+pub mod Elevation
+pub mod ElevationSteps
+pub mod CasesElevation
 pub mod JunctionMesh
 pub mod Laws

@@ -1,5 +1,6 @@
 // What is made of lanes, boundaries and elevation grids, and when a call is turned back.
 pub mod ears;
+pub mod elevation;
 pub mod junction;
 pub mod lists;
 pub mod refusal;

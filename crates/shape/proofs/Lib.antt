@@ -1,0 +1,4 @@
+-- Laws that the proofs of several functions cite.
+pub mod Heights
+pub mod Squares
+pub mod Surveys
