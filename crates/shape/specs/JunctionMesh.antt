@@ -1,23 +1,32 @@
--- Document 01, "Junction triangles": the ears of a boundary split to the grid's spacing, and their triangles with vertices and normals. `lift` brings a
--- point to the grid's height where the grid reaches; `step` is the grid's spacing. Definitions only. Assumes nothing.
-use mathlib.Core.Bool.{cond}
+-- Document 01, "Junction triangles": the ears of a boundary split to the grid's spacing, their triangles with vertices and normals, and the call that makes
+-- the mesh. `lift` brings a point to the grid's height where the grid reaches; `step` is the grid's spacing. Definitions only. Assumes nothing.
+use mathlib.Core.Path.{_≡_}
+use mathlib.Core.Bool.{false, cond}
 use mathlib.Core.List.{List, [], _∷_, _++_}
 use Prim.Native.Nat.{ℕ, zero, suc, _+_, _-_, _*_, _/_}
 use lib.Dec.{ltb}
 use lib.IntN.{pos}
-use lib.Ieee.{Float, binary32, binary64, ofBits, ofInt, toUnsigned, neg, lt, div}
+use lib.Ieee.{Float, inf, binary32, binary64, ofBits, ofInt, toUnsigned, neg, lt, div}
 use lib.ListN.{length, getD}
 use Rattle.rounding.specs.Extremes.{maxOf, clampOf}
 use Rattle.rounding.specs.Whole.{ceilOf, wholeOf}
+use Rattle.rounding.specs.Width.{narrowOf}
 use Rattle.vector.specs.Single.{_⊘_, 0f, 1f}
 use Rattle.vector.specs.Coords.{pointSub, pointAdd, vectorMul, crossOf, distanceOf, normalizeOr, upVector}
 use Rattle.vector.specs.declared.coords.Point.{Point}
 use Rattle.vector.specs.declared.coords.Vector.{Vector}
 use Rattle.shape.specs.declared.junction.Ear.{Ear}
 use Rattle.shape.specs.Gather.{gather}
-use Rattle.shape.specs.Refusal.{Fault, fine, refuse}
-use Rattle.shape.specs.Lists.{pointAt}
-use Rattle.shape.specs.Ears.{earsOf}
+use Rattle.shape.specs.declared.junction.JunctionGrid.{JunctionGrid}
+use Rattle.shape.specs.declared.junction.JunctionGrid.the-variants.{Absent, Present}
+use Rattle.shape.specs.declared.junction.JunctionAnswer.{JunctionAnswer}
+use Rattle.shape.specs.declared.junction.JunctionAnswer.the-variants.{Made, Refused}
+use Rattle.shape.specs.declared.elevation.Spot.{Spot}
+use Rattle.shape.specs.declared.elevation.Spot.the-variants.{Missing, At}
+use Rattle.shape.specs.Refusal.{Fault, fine, refuse, Answer, taken, refused, judge, leaves, numberOf, placeOf}
+use Rattle.shape.specs.Lists.{pointAt, longer, uneven}
+use Rattle.shape.specs.Elevation.{gridLong, gridRagged, heightOf, locateOf}
+use Rattle.shape.specs.Ears.{upTo, earsOf}
 
 -- ---- splitting
 
@@ -135,3 +144,71 @@ groundFault many v n i =
     (refuse (ltb v (3 * many)) 3 (3 * many)
     (refuse (ltb n (3 * many)) 3 (3 * many)
     (refuse (ltb i many) 3 many fine)))
+
+-- ---- the grid
+
+-- "no grid counts as spacing infinity"
+unfoldable pub stepOf : JunctionGrid → Float
+stepOf Absent = inf false
+stepOf (Present g) = g .spacing
+
+-- a point at a height that may be missing, narrowed
+unfoldable pub stood : Point → Spot → Point
+stood p Missing = p
+stood p (At z) = record { x = p .x; y = p .y; z = narrowOf binary32 z }
+
+unfoldable pub liftOf : JunctionGrid → List ℕ → List Float → List Float → Point → Point
+liftOf Absent rows left right p = p
+liftOf (Present g) rows left right p = let at = locateOf g (p .x) (p .y) in stood p (heightOf g rows left right (at .s) (at .t))
+
+-- ---- the call: ring 0, rows 1, left 2, right 3
+
+pub record Ground : Type 0 where
+  pub ring : List Float
+  pub grid : JunctionGrid
+  pub rows : List ℕ
+  pub left : List Float
+  pub right : List Float
+
+abbrev pub ground : List Float → JunctionGrid → List ℕ → List Float → List Float → Ground
+ground p g r a b = record { ring = p; grid = g; rows = r; left = a; right = b }
+
+abbrev pub lifter : Ground → Point → Point
+lifter g = liftOf (g .grid) (g .rows) (g .left) (g .right)
+
+unfoldable pub meshVertices : Ground → List Float
+meshVertices g = groundVertices (lifter g) (stepOf (g .grid)) (g .ring)
+
+unfoldable pub meshNormals : Ground → List Float
+meshNormals g = groundNormals (lifter g) (stepOf (g .grid)) (g .ring)
+
+-- each triangle has its own vertices, so the indices are the vertices' numbers
+unfoldable pub meshIndices : Ground → List ℕ
+meshIndices g = upTo (length (meshVertices g) / 3)
+
+-- the refusals of the input: the ring's limit and the grid's, then the ring not in threes and the grid's rows ragged
+unfoldable pub groundInput : Ground → Fault
+groundInput g =
+    refuse (longer 3 1024 (g .ring)) 1 1024
+    (refuse (gridLong (g .rows)) 1 1024
+    (refuse (uneven 3 (g .ring)) 2 0
+    (refuse (gridRagged (g .rows) (length (g .left)) (length (g .right))) 2 1 fine)))
+
+-- the answer for outputs of the lengths v, n, i: how many vertices, normals and indices
+unfoldable pub groundResult : Ground → ℕ → ℕ → ℕ → Answer ℕ
+groundResult g v n i = let many = length (meshVertices g) / 3 in judge (groundFault many v n i) (taken many)
+
+unfoldable pub groundAnswer : Ground → ℕ → ℕ → ℕ → Answer ℕ
+groundAnswer g v n i = judge (groundInput g) (groundResult g v n i)
+
+-- the paper's values of each case
+unfoldable pub readGround : JunctionAnswer → Answer ℕ
+readGround (Made n) = taken n
+readGround (Refused r) = refused (numberOf r) (placeOf r)
+
+-- a call that returns r: the answer is a, and each lent slice is as that leaves it
+pub record Meshes (g : Ground) (a : Answer ℕ) (r : JunctionAnswer) (v v′ n n′ : List Float) (i i′ : List ℕ) : Type 0 where
+  pub answer : readGround r ≡ a
+  pub vertices : v′ ≡ leaves a (meshVertices g) v
+  pub normals : n′ ≡ leaves a (meshNormals g) n
+  pub indices : i′ ≡ leaves a (meshIndices g) i
