@@ -21,8 +21,9 @@ use Rattle.vector.specs.declared.coords.Vector.{Vector}
 use Rattle.shape.specs.declared.junction.Ear.{Ear}
 use Rattle.shape.specs.Gather.{gather}
 use Rattle.shape.specs.Lists.{pointAt}
-use Rattle.shape.specs.JunctionMesh.{1d, 64d, longestOf, partsOf, faceOf, earCut, cellOf, rowOf, splitOf, earMesh, earsMesh, sumOf, verticesOf, vertexCount}
-use Rattle.shape.specs.Laws.Gather.{gather-next}
+use Rattle.shape.specs.JunctionMesh.{1d, 64d, longestOf, partsOf, faceOf, cornersOf, normalsOf, earCut, cellOf, rowOf, splitOf, earMesh, earsMesh, sumOf, verticesOf, vertexCount}
+use Rattle.shape.specs.Memory.{Put}
+use Rattle.shape.specs.Laws.Memory.{put-then, put-turn}
 
 -- ---- parts
 
@@ -89,3 +90,70 @@ sum-next f i = rw add-one
 pub vertices-of : (step : Float) (ring : List Float) (ears : List ℕ) (k : ℕ) (e : Ear) → e ≡ earCut step ring ears k → 3 * (e .n * e .n) ≡ verticesOf step ring ears k
 unfolding verticesOf
 vertices-of step ring ears k e h = rw h
+
+-- ---- triangles one after another
+
+pub corners-nine : (a b c : Point) → length (cornersOf a b c) ≡ 9
+unfolding cornersOf
+corners-nine a b c = refl
+
+pub normals-nine : (a b c : Point) → length (normalsOf a b c) ≡ 9
+unfolding normalsOf
+normals-nine a b c = refl
+
+module _ (f : Point → Point → Point → List Float) (A : ℕ → ℕ → Point) (n i : ℕ) where
+  cell-two : (j : ℕ) → i + j + 1 < n → cellOf f A n i j ≡ f (A i j) (A (i + 1) j) (A i (j + 1)) ++ f (A (i + 1) j) (A (i + 1) (j + 1)) (A i (j + 1))
+  unfolding cellOf
+  cell-two j h = rw (lt-ltb (i + j + 1) n h)
+
+  cell-one : (j : ℕ) → n ≤ i + j + 1 → cellOf f A n i j ≡ f (A i j) (A (i + 1) j) (A i (j + 1))
+  unfolding cellOf
+  cell-one j h = rw (le-ltb (i + j + 1) n h) (append-nil (f (A i j) (A (i + 1) j) (A i (j + 1))))
+
+  module _ {v₀ v : List Float} {from at : ℕ} (j : ℕ) (p q r : Point) (ep : p ≡ A i j) (eq : q ≡ A (i + 1) j) (er : r ≡ A i (j + 1))
+    (done : Put v₀ v from (gather (cellOf f A n i) j) at) where
+    -- a pair of triangles
+    pub row-turn : {v₁ v₂ : List Float} {a₁ a₂ : ℕ} (s : Point) → s ≡ A (i + 1) (j + 1) → i + j + 1 < n → Put v v₁ at (f p q r) a₁ → Put v₁ v₂ a₁ (f q s r) a₂
+        → Put v₀ v₂ from (gather (cellOf f A n i) (j + 1)) a₂
+    row-turn s es h x y = put-turn (cellOf f A n i) j done (rw (cell-two j h, ← ep, ← eq, ← er, ← es) (put-then x y))
+
+    -- the last of a row
+    pub row-end : {v₁ : List Float} {a₁ : ℕ} → n ≡ i + j + 1 → Put v v₁ at (f p q r) a₁ → Put v₀ v₁ from (rowOf f A n i) a₁
+    unfolding rowOf
+    row-end h x =
+        let e : n - i ≡ j + 1 = omega arith in
+        rw e (put-turn (cellOf f A n i) j done (rw (cell-one j (omega arith), ← ep, ← eq, ← er) x))
+
+-- ---- how long they are
+
+module _ (f : Point → Point → Point → List Float) (nine : (a b c : Point) → length (f a b c) ≡ 9) (A : ℕ → ℕ → Point) (n : ℕ) where
+  cells-length : (i j : ℕ) → i + j < n → length (gather (cellOf f A n i) j) ≡ 18 * j
+  unfolding gather
+  cells-length i zero h = refl
+  cells-length i (suc j) h =
+      rw (length-append, cell-two f A n i j (omega arith), length-append, nine, nine) (omega (arith, cells-length i j (omega arith)))
+
+  pub row-length : (i : ℕ) → i < n → length (rowOf f A n i) + 9 ≡ 18 * (n - i)
+  unfolding rowOf gather
+  row-length i h =
+      let j = n - i - 1 in
+      let e : n - i ≡ suc j = omega arith in
+      rw (e, length-append, cell-one f A n i j (omega arith), nine) (omega (arith, cells-length i j (omega arith)))
+
+  -- what is left of n times n
+  pub rows-length : (i : ℕ) → i ≤ n → length (gather (rowOf f A n) i) + 9 * ((n - i) * (n - i)) ≡ 9 * (n * n)
+  unfolding gather
+  rows-length zero h = let e : n - 0 ≡ n = omega arith in rw e (omega arith)
+  rows-length (suc i) h =
+      let d = n - suc i in
+      let e : n - i ≡ d + 1 = omega arith in
+      let l : length (gather (rowOf f A n) i) + 9 * ((d + 1) * (d + 1)) ≡ 9 * (n * n) = rw e at (rows-length i (omega arith)) in
+      let r : length (rowOf f A n i) + 9 ≡ 18 * (d + 1) = rw e at (row-length i (omega arith)) in
+      rw length-append (omega arith)
+
+  pub split-length : length (splitOf f A n) ≡ 9 * (n * n)
+  unfolding splitOf
+  split-length =
+      let e : n - n ≡ 0 = omega arith in
+      let l : length (gather (rowOf f A n) n) + 9 * (0 * 0) ≡ 9 * (n * n) = rw e at (rows-length n (omega arith)) in
+      omega arith
