@@ -4,6 +4,7 @@ use mathlib.Core.Bool.{Bool, true, false, cond}
 use mathlib.Core.List.{List, [], _∷_, _++_, append-nil}
 use Prim.Native.Nat.{ℕ, zero, suc, _+_, _-_, _*_, _/_, _<_, _≤_}
 use native.Mathlib.Nat.{mul-le-mul}
+use native.Mathlib.Decide.{decLt}
 use native.Mathlib.Numerals.{add-one}
 use native.Mathlib.Omega.{arith}
 use borrow.Author.Tests.{lt-ltb, le-ltb}
@@ -21,7 +22,7 @@ use Rattle.vector.specs.declared.coords.Vector.{Vector}
 use Rattle.shape.specs.declared.junction.Ear.{Ear}
 use Rattle.shape.specs.Gather.{gather}
 use Rattle.shape.specs.Lists.{pointAt}
-use Rattle.shape.specs.JunctionMesh.{1d, 64d, longestOf, partsOf, faceOf, cornersOf, normalsOf, earCut, cellOf, rowOf, splitOf, earMesh, earsMesh, sumOf, verticesOf, vertexCount}
+use Rattle.shape.specs.JunctionMesh.{1d, 64d, longestOf, partsOf, faceOf, cornersOf, normalsOf, earCut, lattice, cellOf, rowOf, splitOf, earMesh, earsMesh, sumOf, verticesOf, vertexCount}
 use Rattle.shape.specs.Memory.{Put}
 use Rattle.shape.specs.Laws.Memory.{put-then, put-turn}
 
@@ -157,3 +158,28 @@ module _ (f : Point → Point → Point → List Float) (nine : (a b c : Point) 
       let e : n - n ≡ 0 = omega arith in
       let l : length (gather (rowOf f A n) n) + 9 * (0 * 0) ≡ 9 * (n * n) = rw e at (rows-length n (omega arith)) in
       omega arith
+
+-- room for n times n is room for a row
+pub square-room : (d : ℕ) → 18 * d ≤ 9 * (d * d) + 9
+square-room zero = omega arith
+square-room (suc d) = let e : suc d ≡ d + 1 = omega arith in rw e (omega arith)
+
+pub ear-length : (f : Point → Point → Point → List Float) → ((a b c : Point) → length (f a b c) ≡ 9) → (lift : Point → Point) (e : Ear)
+    → length (earMesh f lift e) ≡ 9 * (e .n * e .n)
+unfolding earMesh
+ear-length f nine lift e = split-length f nine (λ i j. lift (lattice e i j)) (e .n)
+
+pub sum-fits : (f : ℕ → ℕ) (i n : ℕ) → i < n → sumOf f i + f i ≤ sumOf f n
+unfolding sumOf
+sum-fits f i zero h = absurd (omega arith)
+sum-fits f i (suc n) h =
+    elim (decLt i n) [ yes p ↦ omega (arith, sum-fits f i n p) | no p ↦ (let e : i ≡ n = omega arith in rw e (omega arith)) ]
+
+-- three numbers a vertex
+pub ears-length : (f : Point → Point → Point → List Float) → ((a b c : Point) → length (f a b c) ≡ 9) → (lift : Point → Point) (step : Float) (ring : List Float) (ears : List ℕ) (k : ℕ)
+    → length (gather (λ (i : ℕ). earMesh f lift (earCut step ring ears i)) k) ≡ 3 * sumOf (verticesOf step ring ears) k
+unfolding gather sumOf
+ears-length f nine lift step ring ears zero = refl
+ears-length f nine lift step ring ears (suc k) =
+    rw (length-append, ear-length f nine lift (earCut step ring ears k))
+    (omega (arith, ears-length f nine lift step ring ears k, vertices-of step ring ears k (earCut step ring ears k) refl))
