@@ -57,13 +57,13 @@ pub next-line : (j b : ℕ) → subℕ (j + 1) b ≡ sucℤ (subℕ j b)
 next-line j b =
     elim (decLt j b) [
       | yes p ↦ elim (decLt (j + 1) b) [
-          | yes q ↦ let e : b - suc j ≡ suc (b - suc (j + 1)) = omega arith in rw (below-line (j + 1) b q, below-line j b p, e)
-          | no q ↦
-              let r : b ≤ j + 1 = omega arith in
-              let e : b - suc j ≡ 0 = omega arith in
-              let d : j + 1 - b ≡ 0 = omega arith in
-              rw (from-line (j + 1) b r, below-line j b p, e, d)
-        ]
+        | yes q ↦ let e : b - suc j ≡ suc (b - suc (j + 1)) = omega arith in rw (below-line (j + 1) b q, below-line j b p, e)
+        | no q ↦
+            let r : b ≤ j + 1 = omega arith in
+            let e : b - suc j ≡ 0 = omega arith in
+            let d : j + 1 - b ≡ 0 = omega arith in
+            rw (from-line (j + 1) b r, below-line j b p, e, d)
+      ]
       | no p ↦
           let r : b ≤ j = omega arith in
           let q : b ≤ j + 1 = omega arith in
@@ -82,17 +82,17 @@ last-line j b h =
           let e : b - suc (j - 1) ≡ suc (b - suc j) = omega arith in
           rw (below-line (j - 1) b q, below-line j b p, e)
       | no p ↦ elim (decLt (j - 1) b) [
-          | yes q ↦
-              let r : b ≤ j = omega arith in
-              let e : b - suc (j - 1) ≡ 0 = omega arith in
-              let d : j - b ≡ 0 = omega arith in
-              rw (below-line (j - 1) b q, from-line j b r, e, d)
-          | no q ↦
-              let r : b ≤ j = omega arith in
-              let s : b ≤ j - 1 = omega arith in
-              let e : j - b ≡ suc (j - 1 - b) = omega arith in
-              rw (from-line (j - 1) b s, from-line j b r, e)
-        ]
+        | yes q ↦
+            let r : b ≤ j = omega arith in
+            let e : b - suc (j - 1) ≡ 0 = omega arith in
+            let d : j - b ≡ 0 = omega arith in
+            rw (below-line (j - 1) b q, from-line j b r, e, d)
+        | no q ↦
+            let r : b ≤ j = omega arith in
+            let s : b ≤ j - 1 = omega arith in
+            let e : j - b ≡ suc (j - 1 - b) = omega arith in
+            rw (from-line (j - 1) b s, from-line j b r, e)
+      ]
     ]
 
 pub left-line : (j : ℕ) → 2048 < j → subℕ j 2048 ≡ pos (suc (j - 2049))

@@ -75,11 +75,12 @@ module _ (z : ℤ → ℤ → Spot) (i : ℕ) (j : ℤ) (x y : Float) (h : 0 < i
       → squareOf p q r w x y ≡ inSquare z (subℕ i 2048) x j y
   unfolding inSquare
   square-is a b c d =
-      rw
-      (a ∙ ap (λ (k : ℤ). lineOf (z k) j) (last-line i 2048 h),
-      b,
-      c ∙ ap (λ (k : ℤ). lineOf (z k) j) (next-line i 2048),
-      d ∙ ap (λ (k : ℤ). lineOf (z k) j) (after-line i 2048))
+      rw (
+        a ∙ ap (λ (k : ℤ). lineOf (z k) j) (last-line i 2048 h),
+        b,
+        c ∙ ap (λ (k : ℤ). lineOf (z k) j) (next-line i 2048),
+        d ∙ ap (λ (k : ℤ). lineOf (z k) j) (after-line i 2048),
+      )
 
 -- ---- the squares that are tried
 

@@ -102,8 +102,8 @@ module _ (rows : List ℕ) (l r : ℕ) where
           bad-left = any-next (runBad 6 2 rows l) k ∙ rw (s .bad-left) (or-left (runBad 6 2 rows l k) (runLong 6 2 rows 1024 k) x);
           bad-right = any-next (runBad 6 4 rows r) k ∙ rw (s .bad-right) (or-left (runBad 6 4 rows r k) (runLong 6 4 rows 1024 k) y);
           most-is =
-            n
-            ∙ rw (add-one k, h, s .most-is)
+              n
+              ∙ rw (add-one k, h, s .most-is)
               (maxes (longest 2 rows k) (longest 4 rows k) (wordOf 6 rows k 3 - wordOf 6 rows k 2) (wordOf 6 rows k 5 - wordOf 6 rows k 4));
           left-end = rw (add-one k, h);
           right-end = rw (add-one k, h);

@@ -109,10 +109,10 @@ frameOf p q r w z00 z01 z10 z11 =
     let st1 = slopesOf (secondOf (acrossOf p)) (t0 .second) (t1 .second) (secondOf (acrossOf w)) in
     record {
       m =
-        z00 ∷ z01 ∷ t0 .first ∷ t0 .second
-        ∷ z10 ∷ z11 ∷ t1 .first ∷ t1 .second
-        ∷ s0 .first ∷ s1 .first ∷ st0 .first ∷ st1 .first
-        ∷ s0 .second ∷ s1 .second ∷ st0 .second ∷ st1 .second ∷ [];
+          z00 ∷ z01 ∷ t0 .first ∷ t0 .second
+          ∷ z10 ∷ z11 ∷ t1 .first ∷ t1 .second
+          ∷ s0 .first ∷ s1 .first ∷ st0 .first ∷ st1 .first
+          ∷ s0 .second ∷ s1 .second ∷ st0 .second ∷ st1 .second ∷ [];
     }
 
 -- entry (r, c) of a product of two matrices, each in rows of four
@@ -134,10 +134,10 @@ unfoldable pub bicubic : Patch
 bicubic =
     record {
       m =
-        1d ∷ 0d ∷ 0d ∷ 0d
-        ∷ 0d ∷ 0d ∷ 1d ∷ 0d
-        ∷ -3d ∷ 3d ∷ -2d ∷ -1d
-        ∷ 2d ∷ -2d ∷ 1d ∷ 1d ∷ [];
+          1d ∷ 0d ∷ 0d ∷ 0d
+          ∷ 0d ∷ 0d ∷ 1d ∷ 0d
+          ∷ -3d ∷ 3d ∷ -2d ∷ -1d
+          ∷ 2d ∷ -2d ∷ 1d ∷ 1d ∷ [];
     }
 
 -- "sixteen coefficients": A f A', with A the matrix

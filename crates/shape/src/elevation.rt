@@ -250,10 +250,41 @@ fn second_of(x: Across) -> Spot
 // The matrix that turns a square's corners, slopes and twists into its coefficients, and the same
 // transposed.
 const A: [f64; 16] = [
-    1.0, 0.0, 0.0, 0.0, 0.0, 0.0, 1.0, 0.0, -3.0, 3.0, -2.0, -1.0, 2.0, -2.0, 1.0, 1.0,
+    1.0,
+    0.0,
+    0.0,
+    0.0,
+    0.0,
+    0.0,
+    1.0,
+    0.0,
+    -3.0,
+    3.0,
+    -2.0,
+    -1.0,
+    2.0,
+    -2.0,
+    1.0,
+    1.0,
 ];
+
 const A_TRANSPOSED: [f64; 16] = [
-    1.0, 0.0, -3.0, 2.0, 0.0, 0.0, 3.0, -2.0, 0.0, 1.0, -2.0, 1.0, 0.0, 0.0, -1.0, 1.0,
+    1.0,
+    0.0,
+    -3.0,
+    2.0,
+    0.0,
+    0.0,
+    3.0,
+    -2.0,
+    0.0,
+    1.0,
+    -2.0,
+    1.0,
+    0.0,
+    0.0,
+    -1.0,
+    1.0,
 ];
 
 // Entry (r, c) of the product of a and b.
@@ -350,8 +381,22 @@ fn frame(p: Line, q: Line, r: Line, w: Line, z00: f64, z01: f64, z10: f64, z11: 
     let st1 = slopes(second_of(tp), t0.second, t1.second, second_of(tw));
     Patch {
         m: [
-            z00, z01, t0.first, t0.second, z10, z11, t1.first, t1.second, s0.first, s1.first,
-            st0.first, st1.first, s0.second, s1.second, st0.second, st1.second,
+            z00,
+            z01,
+            t0.first,
+            t0.second,
+            z10,
+            z11,
+            t1.first,
+            t1.second,
+            s0.first,
+            s1.first,
+            st0.first,
+            st1.first,
+            s0.second,
+            s1.second,
+            st0.second,
+            st1.second,
         ],
     }
 }

@@ -312,18 +312,7 @@ fn put_split(
     let mut at = from;
     let mut i: usize = 0;
     while i < n {
-        at = put_row(
-            grid,
-            rows,
-            left,
-            right,
-            most,
-            e,
-            i,
-            vertices,
-            normals,
-            at,
-        );
+        at = put_row(grid, rows, left, right, most, e, i, vertices, normals, at);
         i += 1;
     }
     at
@@ -341,7 +330,7 @@ fn put_ears(
     vertices: &mut [f32],
     normals: &mut [f32],
 ) -> usize
-    requires { ⌜ Limits (now rows) most ⌝ ∗ ⌜ Within (length (now ring) / 3) (now ears) ⌝ ∗ ⌜ (3 * vertexCount (stepOf grid) (now ring) (now ears) ≤ length (now vertices)) × (3 * vertexCount (stepOf grid) (now ring) (now ears) ≤ length (now normals)) ⌝ }
+    requires { ⌜ Limits (now rows) most ⌝ ∗ ⌜ Within (length (now ring) / 3) (now ears) ⌝ ∗ ⌜ (length (now ears) ≤ 3072) × (3 * vertexCount (stepOf grid) (now ring) (now ears) ≤ length (now vertices)) × (3 * vertexCount (stepOf grid) (now ring) (now ears) ≤ length (now normals)) ⌝ }
     ensures { λ r. ⌜ Put (now (vertices .entry)) (now (vertices .exit)) 0 (earsMesh cornersOf (liftOf grid (now (rows .entry)) (now (left .entry)) (now (right .entry))) (stepOf grid) (now (ring .entry)) (now (ears .entry))) r ⌝ }
     ensures { λ r. ⌜ Put (now (normals .entry)) (now (normals .exit)) 0 (earsMesh normalsOf (liftOf grid (now (rows .entry)) (now (left .entry)) (now (right .entry))) (stepOf grid) (now (ring .entry)) (now (ears .entry))) r ⌝ }
 {
@@ -350,17 +339,7 @@ fn put_ears(
     let mut k: usize = 0;
     while k < ears.len() / 3 {
         let e = ear_at(ring, ears, k, step);
-        at = put_split(
-            grid,
-            rows,
-            left,
-            right,
-            most,
-            e,
-            vertices,
-            normals,
-            at,
-        );
+        at = put_split(grid, rows, left, right, most, e, vertices, normals, at);
         k += 1;
     }
     at
@@ -389,17 +368,7 @@ fn mesh_checked(
     match f {
         Check::Faulty(r) => JunctionAnswer::Refused(r),
         Check::Fine => {
-            put_ears(
-                ring,
-                ears,
-                grid,
-                rows,
-                left,
-                right,
-                most,
-                vertices,
-                normals,
-            );
+            put_ears(ring, ears, grid, rows, left, right, most, vertices, normals);
             count_up(indices, many);
             JunctionAnswer::Made(many)
         }

@@ -2,15 +2,15 @@
 use mathlib.Core.Path.{_≡_, refl, sym, ap, _∙_}
 use mathlib.Core.Bool.{Bool, true, false, cond}
 use mathlib.Core.List.{List, [], _∷_, _++_, append-nil}
-use Prim.Native.Nat.{ℕ, zero, suc, _+_, _-_, _*_, _/_, _<_, _≤_}
+use Prim.Native.Nat.{ℕ, zero, suc, _+_, _-_, _*_, _/_, _%_, _<_, _≤_}
 use native.Mathlib.Nat.{mul-le-mul}
 use native.Mathlib.Decide.{decLt}
 use native.Mathlib.Numerals.{add-one}
 use native.Mathlib.Omega.{arith}
-use borrow.Author.Tests.{lt-ltb, le-ltb}
+use borrow.Author.Tests.{ltb-false, lt-ltb, le-ltb, eq-eqb, ne-eqb}
 use lib.Dec.{ltb}
 use lib.Ieee.{Float, nan, inf, fin, ofBits, ofFields, odd, neg, lt, div, binary64, toUnsigned}
-use lib.ListN.{length, getD, length-append}
+use lib.ListN.{length, getD, drop, length-append}
 use Rattle.rounding.specs.Extremes.{clampOf}
 use Rattle.rounding.specs.Whole.{ceilOf}
 use Rattle.rounding.specs.Laws.Order.{IsNum, le-of-not-lt}
@@ -21,10 +21,16 @@ use Rattle.vector.specs.declared.coords.Point.{Point}
 use Rattle.vector.specs.declared.coords.Vector.{Vector}
 use Rattle.shape.specs.declared.junction.Ear.{Ear}
 use Rattle.shape.specs.Gather.{gather}
-use Rattle.shape.specs.Lists.{pointAt}
-use Rattle.shape.specs.JunctionMesh.{1d, 64d, longestOf, partsOf, faceOf, cornersOf, normalsOf, earCut, lattice, cellOf, rowOf, splitOf, earMesh, earsMesh, sumOf, verticesOf, vertexCount}
+use Rattle.shape.specs.Lists.{pointAt, longer, uneven}
+use Rattle.shape.specs.Elevation.{gridLong, gridRagged}
+use Rattle.shape.specs.JunctionMesh.{1d, 64d, longestOf, partsOf, faceOf, cornersOf, normalsOf, earCut, lattice, cellOf, rowOf, splitOf, earMesh, earsMesh, sumOf, verticesOf, vertexCount, groundFault, groundVertices, groundNormals, stepOf, Ground, lifter, meshVertices, meshNormals, meshIndices, groundInput, groundResult, groundAnswer, readGround, Meshes}
 use Rattle.shape.specs.Memory.{Put}
-use Rattle.shape.specs.Laws.Memory.{put-then, put-turn}
+use Rattle.shape.specs.Refusal.{fine, fault, refuse, Answer, taken, refused, judge, numberOf, placeOf}
+use Rattle.shape.specs.declared.refusal.Refusal.{Refusal}
+use Rattle.shape.specs.declared.junction.JunctionAnswer.the-variants.{Made, Refused}
+use Rattle.shape.specs.Ears.{upTo, earsOf}
+use Rattle.shape.specs.Laws.Ears.{fills, stays, up-to-length}
+use Rattle.shape.specs.Laws.Memory.{put-then, put-turn, sets-front}
 
 -- ---- parts
 
@@ -112,7 +118,7 @@ module _ (f : Point → Point → Point → List Float) (A : ℕ → ℕ → Poi
   cell-one j h = rw (le-ltb (i + j + 1) n h) (append-nil (f (A i j) (A (i + 1) j) (A i (j + 1))))
 
   module _ {v₀ v : List Float} {from at : ℕ} (j : ℕ) (p q r : Point) (ep : p ≡ A i j) (eq : q ≡ A (i + 1) j) (er : r ≡ A i (j + 1))
-    (done : Put v₀ v from (gather (cellOf f A n i) j) at) where
+      (done : Put v₀ v from (gather (cellOf f A n i) j) at) where
     -- a pair of triangles
     pub row-turn : {v₁ v₂ : List Float} {a₁ a₂ : ℕ} (s : Point) → s ≡ A (i + 1) (j + 1) → i + j + 1 < n → Put v v₁ at (f p q r) a₁ → Put v₁ v₂ a₁ (f q s r) a₂
         → Put v₀ v₂ from (gather (cellOf f A n i) (j + 1)) a₂
@@ -183,3 +189,102 @@ ears-length f nine lift step ring ears zero = refl
 ears-length f nine lift step ring ears (suc k) =
     rw (length-append, ear-length f nine lift (earCut step ring ears k))
     (omega (arith, ears-length f nine lift step ring ears k, vertices-of step ring ears k (earCut step ring ears k) refl))
+
+-- ---- the call
+
+ears-mesh-length : (f : Point → Point → Point → List Float) → ((a b c : Point) → length (f a b c) ≡ 9) → (lift : Point → Point) (step : Float) (ring : List Float) (ears : List ℕ)
+    → length (earsMesh f lift step ring ears) ≡ 3 * vertexCount step ring ears
+unfolding earsMesh vertexCount
+ears-mesh-length f nine lift step ring ears = ears-length f nine lift step ring ears (length ears / 3)
+
+-- what is put from the front is the result, and then what was there
+put-whole : {A : Type 0} {m₀ m xs : List A} {n : ℕ} → Put m₀ m 0 xs n → length xs ≤ length m₀ → m ≡ xs ++ drop (length xs) m₀
+put-whole {A} {m₀} {m} {xs} p h = p .memory ∙ sets-front xs m₀ h
+
+module _ (many v n i : ℕ) where
+  pub record Room : Type 0 where
+    pub limit : many ≤ 65536
+    pub vertices : 3 * many ≤ v
+    pub normals : 3 * many ≤ n
+    pub indices : many ≤ i
+
+  pub ground-room : groundFault many v n i ≡ fine → Room
+  unfolding groundFault refuse
+  ground-room = go (ltb 65536 many) (ltb-false 65536 many) (ltb v (3 * many)) (ltb-false v (3 * many)) (ltb n (3 * many)) (ltb-false n (3 * many)) (ltb i many) (ltb-false i many)
+    where
+      go : (a : Bool) → (a ≡ false → many ≤ 65536) → (b : Bool) → (b ≡ false → 3 * many ≤ v) → (c : Bool) → (c ≡ false → 3 * many ≤ n) → (d : Bool) → (d ≡ false → many ≤ i)
+          → cond a (fault 1 65536) (cond b (fault 3 (3 * many)) (cond c (fault 3 (3 * many)) (cond d (fault 3 many) fine))) ≡ fine → Room
+      go true p b q c r d s e = absurd (let z : _≡_ {A = ℕ} 0 1 = cc in omega arith)
+      go false p true q c r d s e = absurd (let z : _≡_ {A = ℕ} 0 1 = cc in omega arith)
+      go false p false q true r d s e = absurd (let z : _≡_ {A = ℕ} 0 1 = cc in omega arith)
+      go false p false q false r true s e = absurd (let z : _≡_ {A = ℕ} 0 1 = cc in omega arith)
+      go false p false q false r false s e = record { limit = p refl; vertices = q refl; normals = r refl; indices = s refl }
+
+module _ (g : Ground) where
+  abbrev pub manyOf : ℕ
+  manyOf = vertexCount (stepOf (g .grid)) (g .ring) (earsOf (g .ring))
+
+  vertices-long : length (meshVertices g) ≡ 3 * manyOf
+  unfolding meshVertices groundVertices
+  vertices-long = ears-mesh-length cornersOf corners-nine (lifter g) (stepOf (g .grid)) (g .ring) (earsOf (g .ring))
+
+  normals-long : length (meshNormals g) ≡ 3 * manyOf
+  unfolding meshNormals groundNormals
+  normals-long = ears-mesh-length normalsOf normals-nine (lifter g) (stepOf (g .grid)) (g .ring) (earsOf (g .ring))
+
+  many-is : length (meshVertices g) / 3 ≡ manyOf
+  many-is = omega (arith, vertices-long)
+
+  module _ (v n i : ℕ) where
+    pub ground-refused : (number place : ℕ) → fault number place ≡ groundFault manyOf v n i → refused number place ≡ groundResult g v n i
+    unfolding groundResult judge
+    ground-refused number place e = rw (many-is, ← e)
+
+    pub ground-taken : fine ≡ groundFault manyOf v n i → taken manyOf ≡ groundResult g v n i
+    unfolding groundResult judge
+    ground-taken e = rw (many-is, ← e)
+
+  -- all three outputs as a call that is taken leaves them
+  pub ground-left : (v v′ n n′ : List Float) (i i′ : List ℕ) {a : Answer ℕ} {r s : ℕ} → taken manyOf ≡ a → Room manyOf (length v) (length n) (length i)
+      → Put v v′ 0 (earsMesh cornersOf (lifter g) (stepOf (g .grid)) (g .ring) (earsOf (g .ring))) r
+      → Put n n′ 0 (earsMesh normalsOf (lifter g) (stepOf (g .grid)) (g .ring) (earsOf (g .ring))) s
+      → Put i i′ 0 (upTo manyOf) manyOf
+      → Meshes g a (Made manyOf) v v′ n n′ i i′
+  unfolding readGround meshVertices meshNormals meshIndices groundVertices groundNormals
+  ground-left v v′ n n′ i i′ t room pv pn pi =
+      let li : length (upTo manyOf) ≤ length i = omega (arith, up-to-length manyOf, room .indices) in
+      record {
+        answer = t;
+        vertices = fills (meshVertices g) v v′ t (put-whole pv (omega (arith, vertices-long, room .vertices)));
+        normals = fills (meshNormals g) n n′ t (put-whole pn (omega (arith, normals-long, room .normals)));
+        indices = fills (meshIndices g) i i′ t (rw many-is (put-whole pi li));
+      }
+
+  -- and as a refusal does
+  pub ground-stays : (v n : List Float) (i : List ℕ) {a : Answer ℕ} (r : Refusal) → refused (numberOf r) (placeOf r) ≡ a → Meshes g a (Refused r) v v n n i i
+  unfolding readGround
+  ground-stays v n i r t = record { answer = t; vertices = stays (meshVertices g) v t; normals = stays (meshNormals g) n t; indices = stays (meshIndices g) i t }
+
+  module _ (v n i : ℕ) where
+    pub ring-long : 3 * 1024 < length (g .ring) → refused 1 1024 ≡ groundAnswer g v n i
+    unfolding groundAnswer groundInput judge refuse longer
+    ring-long h = rw (lt-ltb (3 * 1024) (length (g .ring)) h)
+
+    module _ (fits : length (g .ring) ≤ 3 * 1024) where
+      pub grid-long : gridLong (g .rows) ≡ true → refused 1 1024 ≡ groundAnswer g v n i
+      unfolding groundAnswer groundInput judge refuse longer
+      grid-long e = rw (le-ltb (3 * 1024) (length (g .ring)) fits, e)
+
+      module _ (short : gridLong (g .rows) ≡ false) where
+        pub ring-uneven : (length (g .ring) % 3 ≡ 0 → ⊥) → refused 2 0 ≡ groundAnswer g v n i
+        unfolding groundAnswer groundInput judge refuse longer uneven
+        ring-uneven h = rw (le-ltb (3 * 1024) (length (g .ring)) fits, short, ne-eqb (length (g .ring) % 3) 0 h)
+
+        module _ (even : length (g .ring) % 3 ≡ 0) where
+          pub grid-ragged : gridRagged (g .rows) (length (g .left)) (length (g .right)) ≡ true → refused 2 1 ≡ groundAnswer g v n i
+          unfolding groundAnswer groundInput judge refuse longer uneven
+          grid-ragged e = rw (le-ltb (3 * 1024) (length (g .ring)) fits, short, eq-eqb (length (g .ring) % 3) 0 even, e)
+
+          pub ground-checked : gridRagged (g .rows) (length (g .left)) (length (g .right)) ≡ false → groundResult g v n i ≡ groundAnswer g v n i
+          unfolding groundAnswer groundInput judge refuse longer uneven
+          ground-checked e = rw (le-ltb (3 * 1024) (length (g .ring)) fits, short, eq-eqb (length (g .ring) % 3) 0 even, e)

@@ -23,13 +23,13 @@ sub-t7 : tie.Need-sub-t7
 sub-t7 c = let h : c .count642 .result ≤ 1024 = rw (c .count642 .ensures, c .before .before .floor64 .ensures) (below-few (c .before .before .before .args .at) (c .before .before .before .pre)) in omega arith
 
 returns : tie.Need-returns
-returns c = 
+returns c =
     let h : c .before .count64 .result ≤ 1024 = rw (c .before .count64 .ensures, c .before .before .floor64 .ensures) (above-few (c .before .before .before .args .at) (c .before .before .before .pre)) in
     let k : c .count642 .result ≤ 1024 = rw (c .count642 .ensures, c .before .before .floor64 .ensures) (below-few (c .before .before .before .args .at) (c .before .before .before .pre)) in
     record {
       line =
-        rw (c .count642 .ensures, c .before .count64 .ensures, c .before .before .floor64 .ensures)
-        (line-of (floored (c .before .before .before .args .at)) (above-few (c .before .before .before .args .at) (c .before .before .before .pre)) (below-few (c .before .before .before .args .at) (c .before .before .before .pre)));
+          rw (c .count642 .ensures, c .before .count64 .ensures, c .before .before .floor64 .ensures)
+          (line-of (floored (c .before .before .before .args .at)) (above-few (c .before .before .before .args .at) (c .before .before .before .pre)) (below-few (c .before .before .before .args .at) (c .before .before .before .pre)));
       part = rw (c .before .before .floor64 .ensures);
       low = omega arith;
       high = omega arith;

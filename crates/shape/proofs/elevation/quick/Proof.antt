@@ -53,9 +53,11 @@ loop-less : tie.Need-loop-less Inv-loop μ-loop
 loop-less c = omega arith
 
 loop-again : tie.Need-loop-again Inv-loop μ-loop
-loop-again c = 
-    (seen-next (now (c .before .before .before .before .before .before .before .before .before .before .before .before .before .before .args .rows)) (c .before .before .before .before .before .before .before .before .before .before .before .before .before .before .args .left) (c .before .before .before .before .before .before .before .before .before .before .before .before .before .before .args .right) (c .before .before .before .before .before .before .before .before .before .before .before .before .loop .inv .0) (c .before .before .before .before .before .before .before .before .before .before .row .ensures .0) (c .before .before .before .before .before .before .before .in-order .ensures) (not-false (c .before .before .before .before .before .before .before .in-order .result) (c .before .before .before .before .before .before .if1 .left)) (c .before .before .before .before .before .in-order2 .ensures) (not-false (c .before .before .before .before .before .in-order2 .result) (c .before .before .before .before .if2 .left))
-    (rw (c .larger2 .ensures, c .before .span2 .ensures, c .before .before .larger .ensures, c .before .before .before .span .ensures)), omega arith)
+loop-again c = (
+  seen-next (now (c .before .before .before .before .before .before .before .before .before .before .before .before .before .before .args .rows)) (c .before .before .before .before .before .before .before .before .before .before .before .before .before .before .args .left) (c .before .before .before .before .before .before .before .before .before .before .before .before .before .before .args .right) (c .before .before .before .before .before .before .before .before .before .before .before .before .loop .inv .0) (c .before .before .before .before .before .before .before .before .before .before .row .ensures .0) (c .before .before .before .before .before .before .before .in-order .ensures) (not-false (c .before .before .before .before .before .before .before .in-order .result) (c .before .before .before .before .before .before .if1 .left)) (c .before .before .before .before .before .in-order2 .ensures) (not-false (c .before .before .before .before .before .in-order2 .result) (c .before .before .before .before .if2 .left))
+      (rw (c .larger2 .ensures, c .before .span2 .ensures, c .before .before .larger .ensures, c .before .before .before .span .ensures)),
+  omega arith,
+)
 
 returns-3 : tie.Need-returns-3 Inv-loop μ-loop
 returns-3 c = let e : c .before .loop .k ≡ rowCount (now (c .before .before .before .args .rows)) = omega (arith, c .before .loop .inv .1, c .before .before .before .pre) in seen-all (now (c .before .before .before .args .rows)) (c .before .before .before .args .left) (c .before .before .before .args .right) (rw e at (c .before .loop .inv .0))
