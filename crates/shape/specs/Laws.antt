@@ -4,3 +4,5 @@ pub mod Memory
 pub mod Lists
 pub mod SurfaceMesh
 pub mod Outline
+pub mod Ears
+pub mod JunctionMesh

@@ -3,6 +3,9 @@ pub mod Gather
 pub mod Memory
 pub mod Refusal
 pub mod Lists
+pub mod Ears
+pub mod EarSteps
+pub mod CasesEars
 pub mod Double
 pub mod Elevation
 pub mod ElevationSteps
@@ -12,4 +15,5 @@ pub mod SurfaceMesh
 pub mod CasesStrips
 pub mod Outline
 pub mod OutlineSteps
+pub mod JunctionMesh
 pub mod Laws
