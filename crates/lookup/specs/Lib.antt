@@ -5,4 +5,5 @@ pub mod Frame
 pub mod Index
 pub mod Consult
 pub mod Steps
+pub mod Examples
 pub mod Laws
