@@ -5,5 +5,5 @@ pub mod Frame
 pub mod Index
 pub mod Consult
 pub mod Steps
-pub mod Examples
+pub mod IndexExamples
 pub mod Laws
