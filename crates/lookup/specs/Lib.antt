@@ -8,5 +8,6 @@ pub mod Frame
 pub mod Index
 pub mod Consult
 pub mod Steps
+pub mod IndexExamples
 pub mod Laws
 pub mod Examples

@@ -16,11 +16,12 @@ use Rattle.rounding.specs.Column.{col}
 use Rattle.rounding.specs.Laws.Order.{T-of, le-trans, le-num-left, le-num-right}
 use Rattle.rounding.specs.Laws.Column.{Width, col-lt, col-between}
 use Rattle.rounding.specs.Laws.Stored.{back, back-le, le-back, col-back}
-use Rattle.shape.specs.Refusal.{fine, Answer, taken, refused}
+use Rattle.shape.specs.Lists.{Mesh}
+use Rattle.shape.specs.Refusal.{fine, Answer, taken, refused, leaves}
 use Rattle.lookup.specs.Mesh.{triangles}
 use Rattle.lookup.specs.Box.{boxOf, within, inBoxed, inBox}
 use Rattle.lookup.specs.Frame.{extentOf, boxesOf, cellOf, frameOf}
-use Rattle.lookup.specs.Index.{blockOf, blocksOf, holds, members, start, cellWords, headOf, gridWords, noWords, wordsOver, indexWords, cellIn, candidatesIn, candidatesOver, candidatesOf}
+use Rattle.lookup.specs.Index.{blockOf, blocksOf, holds, members, start, cellWords, headOf, gridWords, noWords, wordsOver, indexWords, cellIn, candidatesIn, candidatesOver, candidatesOf, buildOf}
 use Rattle.lookup.specs.Consult.{wordAt, floatAt, headFault, inside, cellAt, firstAt, entryFault, Place, nowhere, run, runIn, runOf, consultOf}
 use Rattle.lookup.specs.Steps.{Framed}
 use Rattle.lookup.specs.Laws.Parts.{cases, start-mono, start-suc}
@@ -280,3 +281,11 @@ candidate vs is t x y e = boxed (boxOf vs is t) refl e
     boxed : (k : Boxed) → boxOf vs is t ≡ k → inBoxed k x y ≡ true → Stands t (candidatesOf vs is x y)
     boxed (Box b) p q = over b p (within-is b x y q) (extentOf vs is (triangles is)) (extent-fits vs is (triangles is)) (extent-holds vs is (triangles is) t b (box-there vs is t b p) p)
     boxed None p q = absurd (true≢false (sym q))
+
+-- ---- after building
+
+-- the words that a taken building call left, words and mesh unchanged since
+pub after-build : (m : Mesh) (before : List ℕ) (n : ℕ) (x y : Float) → buildOf m (length before) ≡ taken n
+    → Hands (leaves (buildOf m (length before)) (indexWords (m .vertices) (m .indices)) before) (triangles (m .indices)) x y (candidatesOf (m .vertices) (m .indices) x y)
+unfolding leaves
+after-build m before n x y e = rw e (hands (m .vertices) (m .indices) (drop (length (indexWords (m .vertices) (m .indices))) before) x y)
