@@ -1,6 +1,6 @@
 -- Document 01, "Height under a wheel": a triangle's grown box. It runs from the least to the greatest x and y of its corners, each bound moved out by 1e-4
 -- times (width in x + height in y), rounded in the Rust's order. Definitions only. Assumes nothing.
-use mathlib.Core.Bool.{Bool, false, _&&_, cond}
+use mathlib.Core.Bool.{Bool, false, _&&_}
 use mathlib.Core.List.{List}
 use Prim.Native.Nat.{ℕ}
 use lib.Ieee.{Float, le}

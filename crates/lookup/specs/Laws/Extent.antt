@@ -1,7 +1,7 @@
 -- The extent of a mesh's boxes holds each of them, NaN bounds passed over; its bounds are singles; and the cell's side is at least 1e-3. Assumes nothing.
 use mathlib.Core.Path.{_≡_, refl, sym, ap, _∙_, subst}
-use mathlib.Core.Logic.{_⊎_, inl, inr, ⊎-elim}
-use mathlib.Core.Bool.{Bool, true, false, cond, _&&_, true≢false}
+use mathlib.Core.Logic.{_⊎_, ⊎-elim}
+use mathlib.Core.Bool.{Bool, true, false, cond, _&&_}
 use mathlib.Core.List.{List}
 use Prim.Native.Nat.{ℕ, zero, suc, _/_, _<_}
 use native.Mathlib.Nat.{not-suc-le-zero, eq-or-lt-of-le, le-of-suc-le-suc}
@@ -10,9 +10,9 @@ use borrow.Author.Tests.{ltb-true}
 use lib.Dec.{T, ltb}
 use lib.IntN.{pos}
 use lib.ListN.{length}
-use lib.Ieee.{Float, fin, binary32, fits, ofBits, eq, lt, le, div}
+use lib.Ieee.{Float, fin, binary32, fits, ofBits, eq, le}
 use lib.Ieee.Fits.{add-fits, sub-fits, div-fits}
-use Rattle.rounding.specs.Extremes.{ge, minOf, maxOf}
+use Rattle.rounding.specs.Extremes.{minOf, maxOf}
 use Rattle.rounding.specs.Laws.Order.{IsNum, le-refl, le-trans, le-of-eq, le-num-left, le-num-right}
 use Rattle.rounding.specs.Laws.Extremes.{Picks, min-picks, max-picks}
 use Rattle.rounding.specs.Laws.Column.{Width, width-ge}
@@ -20,7 +20,7 @@ use Rattle.rounding.specs.Laws.Stored.{back, back-same}
 use Rattle.vector.specs.Single.{_⊘_}
 use Rattle.lookup.specs.Mesh.{triangles, present, cornersOf, cornerOf, indexOf}
 use Rattle.lookup.specs.Box.{grownOf, grownBox, boxOf, mergeOf}
-use Rattle.lookup.specs.Frame.{joinOf, extentOf, countOf, milli, cellOf, frameOf}
+use Rattle.lookup.specs.Frame.{joinOf, extentOf, countOf, milli, cellOf}
 use Rattle.lookup.specs.Laws.Parts.{cases}
 use Rattle.lookup.specs.declared.mesh.Fetch.{Fetch}
 use Rattle.lookup.specs.declared.mesh.Fetch.the-variants.{Corners, Missing}

@@ -1,25 +1,21 @@
 -- What `consult` finds in any words: the tests of the head, the spot of a point, the entries of a run. Assumes nothing.
 use mathlib.Core.Path.{_≡_, refl, sym, ap, _∙_}
-use mathlib.Core.Logic.{_⊎_, inl, inr, ⊎-elim}
+use mathlib.Core.Logic.{_⊎_, ⊎-elim}
 use mathlib.Core.Bool.{Bool, true, false, not, cond, _&&_, _||_, true≢false}
 use mathlib.Core.List.{List}
 use Prim.Native.Nat.{ℕ, zero, suc, _+_, _-_, _*_, _≤_, _<_}
 use native.Mathlib.Nat.{mul-le-mul, eq-or-lt-of-le, le-of-suc-le-suc}
 use native.Mathlib.Omega.{arith}
-use borrow.Author.Tests.{lt-ltb, le-ltb, le-leb, lt-leb, eq-eqb, ne-eqb, eqb-true, leb-true, not-false}
+use borrow.Author.Tests.{lt-ltb, le-ltb, le-leb, lt-leb, eq-eqb, ne-eqb, leb-true, not-false}
 use lib.Dec.{ltb, leb, eqb}
 use lib.ListN.{length}
 use lib.Arith.{digits-lt}
 use lib.Ieee.{Float, binary32, le}
 use Rattle.rounding.specs.Column.{col}
 use Rattle.rounding.specs.Laws.Column.{col-lt}
-use Rattle.shape.specs.Refusal.{Fault, fine, fault, refuse, Answer, taken, refused, judge, found, numberOf, placeOf}
-use Rattle.shape.specs.declared.refusal.Refusal.{Refusal}
-use Rattle.shape.specs.declared.refusal.Check.{Check}
-use Rattle.shape.specs.declared.refusal.Check.the-variants.{Fine, Faulty}
+use Rattle.shape.specs.Refusal.{Fault, fine, fault, refuse, Answer, taken, refused}
 use Rattle.lookup.specs.Consult.{wordAt, floatAt, sides, declares, headFault, inside, cellAt, orElse, entryFault, startAt, firstAt, startFault, Place, nowhere, run, runOf, consultOf}
 use Rattle.lookup.specs.Steps.{Sided, spotOf}
-use Rattle.lookup.specs.declared.grid.Spot.{Spot}
 use Rattle.lookup.specs.declared.grid.Spot.the-variants.{Cell, Outside}
 
 -- a test that lets a call through

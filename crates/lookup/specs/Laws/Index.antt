@@ -1,9 +1,8 @@
 -- What `consult` finds in the words of an index that was built from a mesh, whatever stands past them: the words are never foreign, the run handed over is
 -- the candidates of the point, which rise and are triangles of the mesh, and a triangle whose grown box holds the point is among them. Assumes nothing.
 use mathlib.Core.Path.{_≡_, refl, sym, ap, ap₂, _∙_, subst}
-use mathlib.Core.Logic.{_⊎_, inl, inr, ⊎-elim}
 use mathlib.Core.Bool.{Bool, true, false, cond, _&&_, true≢false}
-use mathlib.Core.List.{List, [], _∷_, _++_, append-assoc}
+use mathlib.Core.List.{List, [], _++_, append-assoc}
 use Prim.Native.Nat.{ℕ, zero, suc, _+_, _-_, _*_, _≤_, _<_}
 use native.Mathlib.Nat.{not-suc-le-zero}
 use native.Mathlib.Omega.{arith}
@@ -17,14 +16,14 @@ use Rattle.rounding.specs.Laws.Order.{T-of, le-trans, le-num-left, le-num-right
 use Rattle.rounding.specs.Laws.Column.{Width, col-lt, col-between}
 use Rattle.rounding.specs.Laws.Stored.{back, back-le, le-back, col-back}
 use Rattle.shape.specs.Lists.{Mesh}
-use Rattle.shape.specs.Refusal.{fine, Answer, taken, refused, leaves}
+use Rattle.shape.specs.Refusal.{fine, taken, refused, leaves}
 use Rattle.lookup.specs.Mesh.{triangles}
 use Rattle.lookup.specs.Box.{boxOf, within, inBoxed, inBox}
-use Rattle.lookup.specs.Frame.{extentOf, boxesOf, cellOf, frameOf}
+use Rattle.lookup.specs.Frame.{extentOf, boxesOf, frameOf}
 use Rattle.lookup.specs.Index.{blockOf, blocksOf, holds, members, start, cellWords, headOf, gridWords, noWords, wordsOver, indexWords, cellIn, candidatesIn, candidatesOver, candidatesOf, buildOf}
-use Rattle.lookup.specs.Consult.{wordAt, floatAt, headFault, inside, cellAt, firstAt, entryFault, Place, nowhere, run, runIn, runOf, consultOf}
+use Rattle.lookup.specs.Consult.{wordAt, floatAt, headFault, inside, cellAt, entryFault, Place, nowhere, run, runIn, runOf, consultOf}
 use Rattle.lookup.specs.Steps.{Framed}
-use Rattle.lookup.specs.Laws.Parts.{cases, start-mono, start-suc}
+use Rattle.lookup.specs.Laws.Parts.{start-mono, start-suc}
 use Rattle.lookup.specs.Laws.Cells.{holds-at}
 use Rattle.lookup.specs.Laws.Frames.{framed, inside-of}
 use Rattle.lookup.specs.Laws.Reading.{length-index, index-start, index-run, Stands, run-of, run-holds, run-rises}
