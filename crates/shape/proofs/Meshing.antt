@@ -1,17 +1,15 @@
 -- One lane more: its room, what it adds to the sizes, and what it adds to the memory; and from the checks to the answer. Assumes nothing.
 use mathlib.Core.Path.{_≡_, refl, sym, ap, _∙_, subst}
 use mathlib.Core.Bool.{Bool, true, false}
-use mathlib.Core.List.{List, [], _∷_, _++_}
+use mathlib.Core.List.{List, [], _∷_}
 use Prim.Native.Nat.{ℕ, zero, suc, _+_, _-_, _*_, _/_, _<_, _≤_, _^_}
 use native.Mathlib.Nat.{zero-add}
 use native.Mathlib.Omega.{arith}
 use borrow.Author.Tests.{ltb-false, le-ltb}
-use lib.Dec.{ltb}
 use lib.Ieee.{Float, lt}
 use lib.ListN.{length, take, drop, length-take, length-append}
 use Rattle.rounding.specs.Thresholds.{micro}
 use Rattle.shape.specs.declared.mesh.At.{At}
-use Rattle.shape.specs.declared.mesh.MeshCounts.{MeshCounts}
 use Rattle.shape.specs.Gather.{gather, any}
 use Rattle.shape.specs.Memory.{Put}
 use Rattle.shape.specs.Refusal.{Fault, fine, fault, refuse, Answer, taken, refused, judge, leaves}

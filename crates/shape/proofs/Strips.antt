@@ -2,7 +2,7 @@
 use mathlib.Core.Path.{_≡_, refl}
 use mathlib.Core.Bool.{Bool, true, false, cond, _&&_}
 use mathlib.Core.List.{List, [], _∷_}
-use Prim.Native.Nat.{ℕ, zero, suc, _+_, _-_, _*_, _≤_, _<_, min}
+use Prim.Native.Nat.{ℕ, _+_, _-_, _*_, _≤_, _<_, min}
 use native.Mathlib.Numerals.{add-one}
 use native.Mathlib.Omega.{arith}
 use borrow.Author.Tests.{lt-ltb}
@@ -11,7 +11,7 @@ use lib.Ieee.{Float, lt, ofBits}
 use lib.ListN.{length, getD, replicate, length-append, length-replicate}
 use Rattle.rounding.specs.Extremes.{maxOf}
 use Rattle.rounding.specs.Thresholds.{tenth}
-use Rattle.rounding.specs.Laws.Order.{IsNum, lt-of-le-of-lt, not-T-of}
+use Rattle.rounding.specs.Laws.Order.{lt-of-le-of-lt, not-T-of}
 use Rattle.rounding.specs.Laws.Extremes.{max-picks}
 use Rattle.vector.specs.Coords.{pointAdd, pointSubVector, vectorMul, crossOf, upVector, normalizeOr}
 use Rattle.vector.specs.Geometry.{leftNormalOf}
@@ -20,7 +20,6 @@ use Rattle.vector.specs.declared.coords.Vector.{Vector}
 use Rattle.shape.specs.declared.mesh.Leg.{Leg}
 use Rattle.shape.specs.declared.mesh.Rib.{Rib}
 use Rattle.shape.specs.declared.mesh.Spread.{Spread}
-use Rattle.shape.specs.Gather.{gather}
 use Rattle.shape.specs.Strip.{Lane, keptPoint, legIn, legOut, alongOf, slopeOf, lateralOf, halfOf, spreadOf, ribAt, triangleOf, segmentOf, noArea, sixOf, upsOf, verticesAt, normalsAt, verticesOf, normalsOf}
 use Rattle.shape.specs.Laws.Gather.{gather-even}
 

@@ -9,7 +9,7 @@ use lib.Ieee.{Float, binary32, lt, neg}
 use Rattle.rounding.specs.Root.{sqrtOf}
 use Rattle.rounding.specs.Extremes.{minOf, maxOf, clampOf}
 use Rattle.rounding.specs.Thresholds.{micro, tenth}
-use Rattle.vector.specs.Single.{_⊕_, _⊖_, _⊗_, _⊘_, single, 0f, 1f}
+use Rattle.vector.specs.Single.{_⊖_, _⊗_, _⊘_, single, 0f, 1f}
 use Rattle.vector.specs.Coords.{
   pointSub,
   pointAdd,

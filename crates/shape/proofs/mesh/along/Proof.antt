@@ -1,5 +1,5 @@
 -- `shape::mesh::along` meets its contract: the tangent, or the way between the legs. Assumes nothing.
-use mathlib.Core.Path.{_≡_, refl, sym, ap, _∙_}
+use mathlib.Core.Path.{sym, ap, _∙_}
 use lib.Ieee.{ofBits}
 use Rattle.vector.specs.Coords.{lengthOf, normalizeOr}
 use Rattle.vector.specs.Geometry.{horizontalOf}

@@ -2,7 +2,6 @@
 use mathlib.Core.Path.{sym, ap, _∙_}
 use native.Mathlib.Omega.{arith}
 use denote.Ref.{now}
-use lib.ListN.{length}
 use Rattle.shape.specs.Refusal.{found, taken}
 use Rattle.shape.specs.SurfaceMesh.{given, readMesh, meshOf}
 use Rattle.shape.proofs.Meshing.{few-lanes, most-fits, most-fine, all-taken, written-sizes, put-left}

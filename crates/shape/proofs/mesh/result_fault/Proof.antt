@@ -1,5 +1,5 @@
 -- `shape::mesh::result_fault` meets its contract: each return follows from the tests that led to it. Assumes nothing.
-use borrow.Author.Tests.{lt-ltb, le-ltb, eq-eqb, ne-eqb}
+use borrow.Author.Tests.{lt-ltb, le-ltb}
 use Rattle.shape.specs.Refusal.{found, numberOf, placeOf, refuse}
 use Rattle.shape.specs.SurfaceMesh.{resultFault}
 use borrow.Author.Needs.{needs}

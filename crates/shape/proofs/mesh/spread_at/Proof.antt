@@ -1,5 +1,5 @@
 -- `shape::mesh::spread_at` meets its contract. Assumes nothing.
-use mathlib.Core.Path.{_≡_, refl, sym, ap, _∙_}
+use mathlib.Core.Path.{_≡_, refl, sym, _∙_}
 use mathlib.Core.Bool.{Bool, true, false, not}
 use lib.Ieee.{ofBits}
 use Rattle.shape.specs.Strip.{spreadOf, pinches, innerOf, shorterOf}
