@@ -11,4 +11,5 @@ pub mod Elevation
 pub mod ElevationSteps
 pub mod CasesElevation
 pub mod JunctionMesh
+pub mod CasesJunction
 pub mod Laws
