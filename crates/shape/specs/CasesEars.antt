@@ -13,11 +13,11 @@ use Rattle.shape.specs.Ears as ears
 use Rattle.shape.specs.Ears.{earsOf}
 
 -- 4
-abbrev 4f : Float
+abbrev pub 4f : Float
 4f = single 0x4080_0000
 
 -- (0,0) (4,0) (4,4) (0,4), its reverse, and its first two points
-abbrev square : List Float
+abbrev pub square : List Float
 square = 0f ∷ 0f ∷ 0f ∷ 4f ∷ 0f ∷ 0f ∷ 4f ∷ 4f ∷ 0f ∷ 0f ∷ 4f ∷ 0f ∷ []
 
 abbrev backwards : List Float

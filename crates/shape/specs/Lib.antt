@@ -16,4 +16,5 @@ pub mod CasesStrips
 pub mod Outline
 pub mod OutlineSteps
 pub mod JunctionMesh
+pub mod CasesJunction
 pub mod Laws

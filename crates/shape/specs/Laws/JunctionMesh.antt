@@ -232,7 +232,7 @@ module _ (g : Ground) where
   unfolding meshNormals groundNormals
   normals-long = ears-mesh-length normalsOf normals-nine (lifter g) (stepOf (g .grid)) (g .ring) (earsOf (g .ring))
 
-  many-is : length (meshVertices g) / 3 ≡ manyOf
+  pub many-is : length (meshVertices g) / 3 ≡ manyOf
   many-is = omega (arith, vertices-long)
 
   module _ (v n i : ℕ) where
