@@ -8,4 +8,6 @@ pub mod Frame
 pub mod Index
 pub mod Consult
 pub mod Steps
+pub mod Sampler
+pub mod Demand3
 pub mod Laws
