@@ -8,15 +8,17 @@ use mathlib.Core.List.{List, _++_}
 use native.Mathlib.Omega.{arith}
 use lib.Dec.{T, ltb}
 use lib.ListN.{length, getD, take, drop, length-append}
-use lib.Seq.{take-append-add}
+use lib.Seq.{take-append-add, take-append-seam}
 use lib.Ieee.{Float, le}
 use borrow.Author.Tests.{ltb-false}
 use Rattle.vector.specs.declared.coords.Vector.{Vector}
 use Rattle.shape.specs.Lists.{Mesh, meshFault}
+use Rattle.shape.specs.SurfaceMesh.{Given, meshOf}
 use Rattle.shape.specs.Refusal.{Fault, fine, fault, refuse, Answer, taken, refused, judge, leaves}
 use Rattle.lookup.specs.declared.mesh.Best.{Best}
 use Rattle.lookup.specs.declared.mesh.Best.the-variants.{At, Nothing}
 use Rattle.lookup.specs.declared.sampler.Lane.{Lane}
+use Rattle.lookup.specs.declared.sampler.Lane.the-variants.{Id}
 use Rattle.lookup.specs.Mesh.{triangles}
 use Rattle.lookup.specs.Box.{inBox}
 use Rattle.lookup.specs.Plain.{scanOf, entryOf, Lookup, gives, none, answerOf}
@@ -24,9 +26,11 @@ use Rattle.lookup.specs.Winner.{Covers, Uncovered, height, normal, Wins,
 use Rattle.lookup.specs.Index.{indexWords, buildOf, answerTo, candidatesOf}
 use Rattle.lookup.specs.Consult.{Place, runIn, consultOf}
 use Rattle.lookup.specs.Sampler.{laneOf, Sample, hit, miss, lookupIn, sampleOf, sampleIn, onward, topFault, topOf}
-use Rattle.lookup.specs.Demand3.{BuiltFrom}
+use Rattle.lookup.specs.Demand3.{BuiltFrom, InStrip, idOf}
 use Rattle.lookup.specs.Laws.Heads.{passed}
-use Rattle.lookup.specs.Laws.Plain.{bestOf, answer-taken, answer-right, answer-none, plain-winner, run-none, run-never-higher, run-winner}
+use Rattle.lookup.specs.Laws.Plain.{bestOf, covers-below, answer-taken, answer-right, answer-none, plain-winner, run-none, run-never-higher, run-winner}
+use Rattle.lookup.specs.Laws.Scan.{scan-found}
+use Rattle.lookup.specs.Laws.Lanes.{strip-of, strip-lane}
 use Rattle.lookup.specs.Laws.Index.{Hands, hands, candidates-rise, candidate}
 use Rattle.lookup.specs.Laws.Limits.{input-not-foreign, short-index}
 
@@ -54,6 +58,16 @@ size-is m room n e =
     let q = judged (refuse (ltb 4194304 k) 1 4194304 (refuse (ltb room k) 3 k fine)) (taken k) n p .1 in
     sym (one-taken k n q)
 
+-- which are within the limit
+few-words : (m : Mesh) (room n : ℕ) → buildOf m room ≡ taken n → n ≤ 4194304
+unfolding buildOf answerTo refuse
+few-words m room n e =
+    let p = judged (meshFault m) (answerTo (indexWords (m .vertices) (m .indices)) room) n e .1 in
+    let k = length (indexWords (m .vertices) (m .indices)) in
+    let q = judged (refuse (ltb 4194304 k) 1 4194304 (refuse (ltb room k) 3 k fine)) (taken k) n p .0 in
+    let r = ltb-false 4194304 k (passed (ltb 4194304 k) 1 4194304 (refuse (ltb room k) 3 k fine) q .0) in
+    omega (arith, r, size-is m room n e)
+
 -- so the words are those of the index of the mesh, and then others
 pub record Words (m : Mesh) (ws : List ℕ) : Type 0 where
   pub rest : List ℕ
@@ -70,6 +84,65 @@ words m ws b =
       rest = take (b .kept - length o) (drop (length o) (b .before));
       are = b .is ∙ ap (take (b .kept)) e ∙ ap (λ (k : ℕ). take k (o ++ drop (length o) (b .before))) z ∙ take-append-add o (drop (length o) (b .before)) (b .kept - length o);
     }
+
+-- the words alone, with nothing past them, are within the limit
+pub words-fit : (m : Mesh) (ws : List ℕ) (b : BuiltFrom m ws) → b .kept ≡ b .size → length ws ≤ 4194304
+unfolding leaves
+words-fit m ws b q =
+    let o = indexWords (m .vertices) (m .indices) in
+    let n = size-is m (length (b .before)) (b .size) (b .took) in
+    let e : leaves (buildOf m (length (b .before))) o (b .before) ≡ o ++ drop (length o) (b .before) = rw (b .took) in
+    let w : ws ≡ o = b .is ∙ ap (take (b .kept)) e ∙ ap (λ (k : ℕ). take k (o ++ drop (length o) (b .before))) (q ∙ n) ∙ take-append-seam o (drop (length o) (b .before)) in
+    let l : length ws ≡ length o = ap (λ (xs : List ℕ). length xs) w in
+    omega (arith, l, n, few-words m (length (b .before)) (b .size) (b .took))
+
+-- ---- a hit, whatever the index
+
+-- what is given is a covering triangle's: its height, its normal and its lane
+pub record Held (m : Mesh) (x y : Float) (h : Float) (n : Vector) (t : ℕ) (l : Lane) : Type 0 where
+  pub covered : Covers m x y t
+  pub is-height : h ≡ height m x y t
+  pub is-normal : n ≡ normal m x y t
+  pub is-lane : l ≡ laneOf (m .spans) t
+
+module _ (m : Mesh) (ws : List ℕ) (x y : Float) (h : Float) (n : Vector) (t : ℕ) (l : Lane) where
+  held-in : (run : List ℕ) → sampleIn m x y run ≡ hit h n t l → Held m x y h n t l
+  unfolding sampleIn sampleOf
+  held-in run e = go (bestOf m x y (entryOf run) (length run)) refl e
+    where
+      go : (s : Best) → bestOf m x y (entryOf run) (length run) ≡ s → sampleOf m x y s ≡ hit h n t l → Held m x y h n t l
+      go (At g j) q z =
+          let f = scan-found (m .vertices) (m .indices) x y (entryOf run) (length run) q in
+          let u : j ≡ t = cc in
+          let v : g ≡ h = cc in
+          let w : normal m x y j ≡ n = cc in
+          let o : laneOf (m .spans) j ≡ l = cc in
+          rw (← u, ← v, ← w, ← o) (record { covered = f .covered; is-height = f .height; is-normal = refl; is-lane = refl })
+      go Nothing q z = let u : _≡_ {A = ℕ} 0 1 = cc in absurd (omega arith)
+
+  pub hit-held : topOf m ws x y ≡ taken (hit h n t l) → Held m x y h n t l
+  unfolding topOf onward
+  hit-held e = go (consultOf ws (triangles (m .indices)) x y) (judged (topFault m ws) (onward (consultOf ws (triangles (m .indices)) x y) (λ (p : Place). sampleIn m x y (runIn ws p))) (hit h n t l) e .1)
+    where
+      go : (a : Answer Place) → onward a (λ (p : Place). sampleIn m x y (runIn ws p)) ≡ taken (hit h n t l) → Held m x y h n t l
+      go (taken p) q = held-in (runIn ws p) (one-taken (sampleIn m x y (runIn ws p)) (hit h n t l) q)
+      go (refused number place) q = let z : _≡_ {A = ℕ} 0 1 = cc in absurd (omega arith)
+
+-- ---- the lane: over a mesh that came from lanes, a hit names the lane whose strip holds the triangle
+
+pub record NamesLane (g : Given) (t : ℕ) (l : Lane) : Type 0 where
+  pub of : ℕ
+  pub in-strip : InStrip g t of
+  pub named : l ≡ Id (idOf g of)
+
+pub lane-named : (g : Given) (ws : List ℕ) (x y : Float) (h : Float) (n : Vector) (t : ℕ) (l : Lane)
+    → topOf (meshOf g) ws x y ≡ taken (hit h n t l) → NamesLane g t l
+lane-named g ws x y h n t l e =
+    let k = hit-held (meshOf g) ws x y h n t l e in
+    let s = strip-of g t (covers-below (meshOf g) x y t (k .covered)) in
+    record { of = s .of; in-strip = s .in-strip; named = k .is-lane ∙ strip-lane g t (s .of) (s .in-strip) }
+
+-- ---- an index that was built from the mesh
 
 module _ (m : Mesh) (ws : List ℕ) (b : BuiltFrom m ws) (x y : Float) where
   handed : Hands ws (triangles (m .indices)) x y (candidatesOf (m .vertices) (m .indices) x y)

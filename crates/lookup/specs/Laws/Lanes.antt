@@ -3,6 +3,7 @@ use Prim.Native.Nat.{ℕ, zero, suc, _+_, _*_, _/_, _≤_, _<_}
 use mathlib.Core.Path.{_≡_, refl, sym, ap, _∙_, subst}
 use mathlib.Core.List.{List, [], _∷_}
 use native.Mathlib.Omega.{arith}
+use native.Mathlib.Decide.{decLt}
 use lib.ListN.{length, getD}
 use lib.Ieee.{Float}
 use Rattle.vector.specs.declared.coords.Vector.{Vector}
@@ -105,3 +106,15 @@ module _ (g : Given) where
   strip-of t h =
       let o = index-owner g (3 * t) (omega arith) in
       record { of = o .owner; in-strip = record { lane = o .below-n; from = o .from; to = omega (arith, o .to, index-next g (o .owner)) } }
+
+  -- and in one only
+  later-lane : (t j k : ℕ) → j < k → InStrip g t j → InStrip g t k → ⊥
+  later-lane t j k l p q = omega (arith, index-next g j, gather-fits (laneIndices g) j k l, p .to, q .from)
+
+  pub one-strip : (t j k : ℕ) → InStrip g t j → InStrip g t k → j ≡ k
+  one-strip t j k p q = go (decLt j k) (decLt k j)
+    where
+      go : Dec (j < k) → Dec (k < j) → j ≡ k
+      go (yes a) d = absurd (later-lane t j k a p q)
+      go (no a) (yes d) = absurd (later-lane t k j d q p)
+      go (no a) (no d) = omega arith
