@@ -1,14 +1,11 @@
 -- The first span that ends past an index, by halving: what is known between two bounds, and that it ends with the span. Assumes nothing.
-use Prim.Native.Nat.{ℕ, zero, suc, _+_, _/_, _≤_, _<_, zero-le}
-use mathlib.Core.Path.{_≡_, refl, sym, _∙_}
+use Prim.Native.Nat.{ℕ, _+_, _≤_, _<_, zero-le}
+use mathlib.Core.Path.{_≡_, sym}
 use mathlib.Core.List.{List}
 use native.Mathlib.Omega.{arith}
 use native.Mathlib.Nat.{le-refl}
-use lib.ListN.{length}
-use borrow.Author.Tests.{lt-ltb, le-ltb, le-leb, lt-leb}
-use Rattle.shape.specs.Lists.{wordOf, startOf, endOf}
-use Rattle.lookup.specs.declared.sampler.Lane.the-variants.{Id, None}
-use Rattle.lookup.specs.Sampler.{EndsRise, pastOf, laneOf}
+use Rattle.shape.specs.Lists.{endOf}
+use Rattle.lookup.specs.Sampler.{EndsRise, pastOf}
 use Rattle.lookup.specs.Laws.Spans.{past-is}
 
 -- the spans below `low` do not end past i, and span `high`, if there is one, does

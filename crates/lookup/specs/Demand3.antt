@@ -3,10 +3,9 @@ use Prim.Native.Nat.{ℕ, _+_, _*_, _≤_, _<_}
 use mathlib.Core.Path.{_≡_}
 use mathlib.Core.List.{List}
 use lib.ListN.{length, take}
-use lib.Ieee.{Float}
 use Rattle.shape.specs.Lists.{Mesh, wordOf}
-use Rattle.shape.specs.Refusal.{Answer, taken, leaves}
-use Rattle.shape.specs.SurfaceMesh.{Given, lanesOf, indexOf, meshOf}
+use Rattle.shape.specs.Refusal.{taken, leaves}
+use Rattle.shape.specs.SurfaceMesh.{Given, lanesOf, indexOf}
 use Rattle.lookup.specs.Index.{indexWords, buildOf}
 
 -- "an index built from a mesh is the words that a taken building call left": in memory that held `before`, the call left `size` words at the front, and ws is

@@ -1,6 +1,6 @@
 -- Document 01, "Height under a wheel": what the indexed lookup answers. "The indexed one adds the lane, if any". Definitions only. Assumes nothing.
 use Prim.Native.Nat.{ℕ, zero, suc, _*_, _/_, _≤_, _<_}
-use mathlib.Core.Bool.{Bool, _&&_, cond}
+use mathlib.Core.Bool.{_&&_, cond}
 use mathlib.Core.List.{List}
 use lib.ListN.{length}
 use lib.Dec.{ltb, leb}

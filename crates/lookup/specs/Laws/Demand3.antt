@@ -1,13 +1,13 @@
 -- Demand 3, the indexed lookup, for an index that was built from the mesh, with the plain lookup beside it. It is never refused as foreign; it gives none
 -- where the plain lookup gives none and is never higher; and where the winner's grown box holds the point it gives the winner, as the plain lookup does.
 -- Assumes nothing.
-use Prim.Native.Nat.{ℕ, _+_, _-_, _*_, _≤_, _<_}
+use Prim.Native.Nat.{ℕ, _+_, _-_, _≤_}
 use mathlib.Core.Path.{_≡_, refl, sym, ap, _∙_, subst}
-use mathlib.Core.Bool.{Bool, true, false}
+use mathlib.Core.Bool.{true}
 use mathlib.Core.List.{List, _++_}
 use native.Mathlib.Omega.{arith}
 use lib.Dec.{T, ltb}
-use lib.ListN.{length, getD, take, drop, length-append}
+use lib.ListN.{length, take, drop}
 use lib.Seq.{take-append-add, take-append-seam}
 use lib.Ieee.{Float, le}
 use borrow.Author.Tests.{ltb-false}
@@ -21,14 +21,14 @@ use Rattle.lookup.specs.declared.sampler.Lane.{Lane}
 use Rattle.lookup.specs.declared.sampler.Lane.the-variants.{Id}
 use Rattle.lookup.specs.Mesh.{triangles}
 use Rattle.lookup.specs.Box.{inBox}
-use Rattle.lookup.specs.Plain.{scanOf, entryOf, Lookup, gives, none, answerOf}
-use Rattle.lookup.specs.Winner.{Covers, Uncovered, height, normal, Wins, NoNan, Right}
+use Rattle.lookup.specs.Plain.{entryOf, gives, none, answerOf}
+use Rattle.lookup.specs.Winner.{Covers, height, normal, Wins, NoNan}
 use Rattle.lookup.specs.Index.{indexWords, buildOf, answerTo, candidatesOf}
 use Rattle.lookup.specs.Consult.{Place, runIn, consultOf}
 use Rattle.lookup.specs.Sampler.{laneOf, Sample, hit, miss, lookupIn, sampleOf, sampleIn, onward, topFault, topOf}
 use Rattle.lookup.specs.Demand3.{BuiltFrom, InStrip, idOf}
 use Rattle.lookup.specs.Laws.Heads.{passed}
-use Rattle.lookup.specs.Laws.Plain.{bestOf, covers-below, answer-taken, answer-right, answer-none, plain-winner, run-none, run-never-higher, run-winner}
+use Rattle.lookup.specs.Laws.Plain.{bestOf, covers-below, answer-right, answer-none, plain-winner, run-none, run-never-higher, run-winner}
 use Rattle.lookup.specs.Laws.Scan.{scan-found}
 use Rattle.lookup.specs.Laws.Lanes.{strip-of, strip-lane}
 use Rattle.lookup.specs.Laws.Index.{Hands, hands, candidates-rise, candidate}

@@ -1,23 +1,17 @@
 -- Demand 3, the lane: over a mesh that came from lanes, the lane named for a triangle is the one whose strip holds it. Assumes nothing.
 use Prim.Native.Nat.{ℕ, zero, suc, _+_, _*_, _/_, _≤_, _<_}
-use mathlib.Core.Path.{_≡_, refl, sym, ap, _∙_, subst}
+use mathlib.Core.Path.{_≡_, refl, sym, ap, _∙_}
 use mathlib.Core.List.{List, [], _∷_}
 use native.Mathlib.Omega.{arith}
 use native.Mathlib.Decide.{decLt}
 use lib.ListN.{length, getD}
-use lib.Ieee.{Float}
-use Rattle.vector.specs.declared.coords.Vector.{Vector}
 use Rattle.shape.specs.Gather.{gather}
-use Rattle.shape.specs.Lists.{Mesh, wordOf, startOf, endOf}
-use Rattle.shape.specs.Refusal.{Fault, fine, fault, Answer, taken, refused, judge}
+use Rattle.shape.specs.Lists.{wordOf, startOf, endOf}
 use Rattle.shape.specs.Strip.{kept}
 use Rattle.shape.specs.SurfaceMesh.{Given, lanesOf, laneAt, laneIndices, laneSpan, spanOf, baseOf, indexOf, meshOf}
-use Rattle.shape.specs.Laws.Gather.{gather-fits, gather-at, Owner, gather-owner, Multiple, gather-multiple}
+use Rattle.shape.specs.Laws.Gather.{gather-fits, gather-at, gather-owner, Multiple, gather-multiple}
 use Rattle.shape.specs.Laws.SurfaceMesh.{index-next, index-owner, owner-ribs}
-use Rattle.lookup.specs.declared.mesh.Best.{Best}
-use Rattle.lookup.specs.declared.mesh.Best.the-variants.{At, Nothing}
-use Rattle.lookup.specs.declared.sampler.Lane.{Lane}
-use Rattle.lookup.specs.declared.sampler.Lane.the-variants.{Id, None}
+use Rattle.lookup.specs.declared.sampler.Lane.the-variants.{Id}
 use Rattle.lookup.specs.Mesh.{triangles}
 use Rattle.lookup.specs.Sampler.{pastOf, laneOf}
 use Rattle.lookup.specs.Demand3.{InStrip, idOf}

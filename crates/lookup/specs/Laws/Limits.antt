@@ -1,6 +1,6 @@
 -- The refusals of the indexed lookup's input beside those of its mesh: the index's limit comes between the mesh's limits and what is ragged.
 -- Assumes nothing.
-use Prim.Native.Nat.{ℕ, _*_, _/_, _≤_, _<_}
+use Prim.Native.Nat.{ℕ, _/_, _≤_, _<_}
 use mathlib.Core.Path.{_≡_, refl, sym, ap, _∙_}
 use mathlib.Core.Bool.{Bool, true, false}
 use mathlib.Core.List.{List}

@@ -1,7 +1,5 @@
 -- `lookup::sampler::lane_of` meets its contract: the span found and its start pick the case of `laneOf`. Assumes nothing.
-use Prim.Native.Nat.{ℕ, _/_, _≤_, _<_}
 use native.Mathlib.Omega.{arith}
-use borrow.Author.Needs.{needs}
 use Rattle.lookup.specs.Laws.Spans.{lane-id, lane-before, lane-past}
 use Rattle.lookup.proofs.sampler.lane_of.Statement.{statement}
 use Rattle.lookup.proofs.sampler.lane_of.Tie as tie

@@ -1,5 +1,5 @@
 -- `lookup::sampler::span_past` meets its contract: each turn halves what is left. Assumes nothing.
-use Prim.Native.Nat.{ℕ, _+_, _-_, _/_, _≤_, _<_}
+use Prim.Native.Nat.{_+_, _-_, _/_, _≤_, _<_}
 use native.Mathlib.Omega.{arith}
 use Rattle.shape.specs.Lists.{endOf}
 use Rattle.lookup.proofs.Search.{Halved, whole, upper, lower, ended}

@@ -1,5 +1,5 @@
 -- `lookup::sampler::top` meets its contract: the check, what is consulted and what the scan finds pick the case of `topOf`. Assumes nothing.
-use Prim.Native.Nat.{ℕ, _-_, _/_, _<_, _≤_}
+use Prim.Native.Nat.{ℕ, _-_, _<_}
 use mathlib.Core.Path.{_≡_, sym, _∙_}
 use mathlib.Core.List.{List}
 use native.Mathlib.Omega.{arith}
@@ -9,7 +9,7 @@ use Rattle.shape.specs.declared.refusal.Refusal.{Refusal}
 use Rattle.shape.specs.declared.refusal.Check.{Check}
 use Rattle.shape.specs.declared.refusal.Check.the-variants.{Fine, Faulty}
 use Rattle.shape.specs.Refusal.{found, judge}
-use Rattle.shape.specs.Lists.{Mesh, meshLists, meshFault}
+use Rattle.shape.specs.Lists.{Mesh, meshLists}
 use Rattle.lookup.specs.declared.mesh.Best.{Best}
 use Rattle.lookup.specs.declared.mesh.Best.the-variants.{At, Nothing}
 use Rattle.lookup.specs.declared.grid.Consulted.{Consulted}
@@ -19,7 +19,7 @@ use Rattle.lookup.specs.Mesh.{triangles}
 use Rattle.lookup.specs.Cover.{normalOf}
 use Rattle.lookup.specs.Plain.{scanOf, entryOf}
 use Rattle.lookup.specs.Consult.{runIn, consultOf, readConsulted}
-use Rattle.lookup.specs.Sampler.{EndsRise, laneOf, topFault, sampleIn, sampleOf, onward, topOf, readSampled}
+use Rattle.lookup.specs.Sampler.{laneOf, topFault, sampleIn, sampleOf, onward, topOf, readSampled}
 use Rattle.lookup.specs.Laws.Scan.{scan-found}
 use Rattle.lookup.specs.Laws.Plain.{covers-below}
 use Rattle.lookup.specs.Laws.Limits.{InOrder, in-order, mesh-in-order}

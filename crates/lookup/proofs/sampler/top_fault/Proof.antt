@@ -1,5 +1,5 @@
 -- `lookup::sampler::top_fault` meets its contract: an index past its limit comes after a mesh past its limits, and before all else. Assumes nothing.
-use Prim.Native.Nat.{ℕ, _≤_, _<_}
+use Prim.Native.Nat.{ℕ, _<_}
 use mathlib.Core.Path.{_≡_, sym, ap, _∙_}
 use mathlib.Core.Bool.{true, false}
 use mathlib.Core.List.{List}
