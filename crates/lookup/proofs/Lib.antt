@@ -5,3 +5,4 @@ pub mod Sums
 pub mod Visit
 pub mod Runs
 pub mod Chain
+pub mod Search

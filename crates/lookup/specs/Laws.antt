@@ -9,3 +9,7 @@ pub mod Reading
 pub mod Heads
 pub mod Extent
 pub mod Index
+pub mod Spans
+pub mod Limits
+pub mod Lanes
+pub mod Demand3

@@ -9,5 +9,7 @@ pub mod Index
 pub mod Consult
 pub mod Steps
 pub mod IndexExamples
+pub mod Sampler
+pub mod Demand3
 pub mod Laws
 pub mod Examples
