@@ -22,6 +22,75 @@ fn squares(a: f32, b: f32) -> f64 {
     x * x + y * y
 }
 
+/// A vector, or a point, as src/coords.rs has them.
+#[derive(Clone, Copy)]
+struct Vector {
+    x: f32,
+    y: f32,
+    z: f32,
+}
+
+impl Vector {
+    fn dot(self, other: Self) -> f32 {
+        self.x * other.x + self.y * other.y + self.z * other.z
+    }
+
+    fn length(self) -> f32 {
+        self.dot(self).sqrt()
+    }
+
+    fn times(self, k: f32) -> Self {
+        Vector { x: self.x * k, y: self.y * k, z: self.z * k }
+    }
+
+    fn normalize_or_zero(self) -> Self {
+        let len = self.length();
+        if len.is_finite() && len > 0.0 {
+            self.times(1.0 / len)
+        } else {
+            Vector { x: 0.0, y: 0.0, z: 0.0 }
+        }
+    }
+
+    fn is_finite(self) -> bool {
+        self.x.is_finite() && self.y.is_finite() && self.z.is_finite()
+    }
+
+    fn words(self) -> Vec<u32> {
+        [single(self.x), single(self.y), single(self.z)].concat()
+    }
+}
+
+fn vector(w: &[u32]) -> Vector {
+    Vector { x: f32::from_bits(w[0]), y: f32::from_bits(w[1]), z: f32::from_bits(w[2]) }
+}
+
+/// The checks of the vector layer.
+fn vector_answer(check: &str, w: &[u32]) -> Vec<u32> {
+    let v = vector(w);
+    let other = || vector(&w[3..]);
+    match check {
+        "vector_add" | "point_add" => {
+            let u = other();
+            Vector { x: v.x + u.x, y: v.y + u.y, z: v.z + u.z }.words()
+        }
+        "vector_sub" | "point_sub" | "point_sub_vector" => {
+            let u = other();
+            Vector { x: v.x - u.x, y: v.y - u.y, z: v.z - u.z }.words()
+        }
+        "vector_mul" => v.times(f32::from_bits(w[3])).words(),
+        "vector_neg" => Vector { x: -v.x, y: -v.y, z: -v.z }.words(),
+        "horizontal" => Vector { x: v.x, y: v.y, z: 0.0 }.words(),
+        "vector_is_finite" | "point_is_finite" => vec![v.is_finite() as u32],
+        "normalize_or_zero" => v.normalize_or_zero().words(),
+        "length_squared" => single(v.dot(v)),
+        "length_below_micro" => vec![(v.length() < 1e-6) as u32],
+        "length_above_micro" => vec![(v.length() > 1e-6) as u32],
+        "length_above_tenth" => vec![(v.length() > 0.1) as u32],
+        _ => panic!("no check {check}"),
+    }
+}
+
 fn answer(check: &str, w: &[u32]) -> Vec<u32> {
     let f = |i: usize| f32::from_bits(w[i]);
     let d = |i: usize| f64::from_bits(u64::from(w[i]) | u64::from(w[i + 1]) << 32);
@@ -39,7 +108,7 @@ fn answer(check: &str, w: &[u32]) -> Vec<u32> {
         "squares" => double(squares(f(0), f(1))),
         "hypot_above_milli" => vec![(hypot(f(0), f(1)) > 1e-3) as u32],
         "hypot_at_most_milli" => vec![(hypot(f(0), f(1)) <= 1e-3) as u32],
-        _ => panic!("no check {check}"),
+        _ => vector_answer(check, w),
     }
 }
 

@@ -3,17 +3,17 @@
 // of its cases, and for each case the count of its input words, these, the count of its answer words,
 // and these. A line for each block says how many cases differ, and the last line for all.
 mod names;
+mod numbers;
 mod rounding_ops;
 mod stream;
 mod text;
+mod vector_ops;
 
 ghost use mathlib.Core.Path.{_≡_};
 ghost use mathlib.Core.Bool.{true};
 ghost use Prim.Native.Nat.{ℕ, _<_};
 ghost use Rattle.replay.specs.Words.{getWord};
 use rounding_ops::may_panic;
-use rounding_ops::takes;
-use rounding_ops::work;
 use stream::Place;
 use stream::list;
 use stream::next;
@@ -86,8 +86,22 @@ fn judge(op: u32, made: &[u32], n: usize, wanted: &[u32], count: usize) -> Verdi
     Verdict::Same
 }
 
-// Works one case. An operation that is not known, and a count of words that is not the operation's, is
-// a difference.
+// Works an operation of any layer on the `size` words given, and answers how many words it puts to the
+// start of `made`: 0 for an operation that is not known, and for a count of words that is not its own.
+fn work(op: u32, given: &[u32], size: usize, made: &mut [u32]) -> usize {
+    if size == 0 {
+        return 0;
+    }
+    if size == rounding_ops::takes(op) {
+        return rounding_ops::work(op, given, made);
+    }
+    if size == vector_ops::takes(op) {
+        return vector_ops::work(op, given, made);
+    }
+    0
+}
+
+// Works one case. Where there is no answer, that is a difference.
 fn answer(
     op: u32,
     given: &[u32],
@@ -96,13 +110,10 @@ fn answer(
     wanted: &[u32],
     count: usize,
 ) -> Verdict {
-    if size == 0 {
+    let n = work(op, given, size, made);
+    if n == 0 {
         return Verdict::Differs;
     }
-    if size != takes(op) {
-        return Verdict::Differs;
-    }
-    let n = work(op, given, made);
     judge(op, made, n, wanted, count)
 }
 

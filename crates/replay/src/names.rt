@@ -58,19 +58,43 @@ fn check_name(k: u32) {
     word_of(b"hypot_above_milli hypot_at_most_milli", k - 4);
 }
 
+// The operations of the vector layer that the oracle has.
+fn vector_name(k: u32) {
+    word_of(
+        b"length distance dot cross normalize_or rotate_about left_normal",
+        k,
+    );
+}
+
+// The other checks of the vector layer.
+fn vector_check_name(k: u32) {
+    if k < 8 {
+        word_of(
+            b"vector_add vector_sub vector_mul vector_neg point_sub point_add point_sub_vector horizontal",
+            k,
+        );
+        return;
+    }
+    let k = k - 8;
+    if k < 3 {
+        word_of(b"vector_is_finite normalize_or_zero length_squared", k);
+        return;
+    }
+    word_of(
+        b"length_below_micro length_above_micro length_above_tenth point_is_finite",
+        k - 3,
+    );
+}
+
 // Writes the name of an operation.
 pub fn name(op: u32) {
-    if op < 20 {
-        rounding_name(op);
-        return;
+    match op {
+        0..=19 => rounding_name(op),
+        20..=26 => vector_name(op - 20),
+        100..=112 => check_name(op - 100),
+        200..=214 => vector_check_name(op - 200),
+        _ => {
+            io::write_all(STDOUT_FILENO, b"unknown operation");
+        }
     }
-    if op < 100 {
-        io::write_all(STDOUT_FILENO, b"unknown operation");
-        return;
-    }
-    if op > 112 {
-        io::write_all(STDOUT_FILENO, b"unknown operation");
-        return;
-    }
-    check_name(op - 100);
 }

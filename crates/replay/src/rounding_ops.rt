@@ -1,15 +1,18 @@
-// The operations of the rounding layer over words: floats by their bits, doubles low word first. An
-// operation's number is its place in the oracle's list, and 100 and on are checks that the oracle has
-// no operation for.
+// The operations of the rounding layer over words. An operation's number is its place in the oracle's
+// list, and 100 and on are checks that the oracle has no operation for.
 ghost use mathlib.Core.Path.{_≡_};
 ghost use mir.Syntax.{w64};
 ghost use mir.Val.{ofZ};
+use crate::numbers::double;
+use crate::numbers::put_count;
+use crate::numbers::put_double;
+use crate::numbers::put_single;
+use crate::numbers::put_test;
+use crate::numbers::put_wide;
+use crate::numbers::single;
 use crate::stream::put;
-use crate::stream::word;
 use rounding::bits::bits32;
 use rounding::bits::bits64;
-use rounding::bits::from_bits32;
-use rounding::bits::from_bits64;
 use rounding::bits::stored;
 use rounding::compare::hypot_above_milli;
 use rounding::compare::hypot_at_most_milli;
@@ -41,43 +44,6 @@ use rounding::whole::round32;
 use rounding::whole::round64;
 use rounding::width::narrow;
 use rounding::width::widen;
-
-// Single number i of the words.
-fn single(words: &[u32], i: usize) -> f32 {
-    from_bits32(word(words, i))
-}
-
-// The double that starts at word i, which is small.
-fn double(words: &[u32], i: u8) -> f64 {
-    let k = i as usize;
-    from_bits64(word(words, k), word(words, k + 1))
-}
-
-fn put_single(made: &mut [u32], x: f32) -> usize {
-    put(made, 0, bits32(x));
-    1
-}
-
-fn put_wide(made: &mut [u32], i: u8, w: u64) {
-    let k = i as usize;
-    put(made, k, (w % 0x1_0000_0000) as u32);
-    put(made, k + 1, (w / 0x1_0000_0000) as u32);
-}
-
-fn put_double(made: &mut [u32], x: f64) -> usize {
-    put_wide(made, 0, bits64(x));
-    2
-}
-
-fn put_count(made: &mut [u32], n: u64) -> usize {
-    put_wide(made, 0, n);
-    2
-}
-
-fn put_test(made: &mut [u32], yes: bool) -> usize {
-    put(made, 0, if yes { 1 } else { 0 });
-    1
-}
 
 // The bits of n in two's complement. Those of -1 - n are the same with each bit turned.
 fn signed_bits(n: i64) -> u64
