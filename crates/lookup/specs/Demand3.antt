@@ -55,6 +55,9 @@ pub record Demand3 (m : Mesh) (ws : List ℕ) (x y : Float) : Type 0 where
   pub plain-none : (l : Lookup) → answerOf m x y ≡ taken l → (l ≡ none) ↔ Uncovered m x y
   -- the words are never foreign to the mesh
   pub never-foreign : (place : ℕ) → topOf m ws x y ≡ refused 4 place → ⊥
+  -- nothing else turns a call back, either lookup's, while the words are within their limit
+  pub plain-taken : (number place : ℕ) → answerOf m x y ≡ refused number place → ⊥
+  pub indexed-taken : length ws ≤ 4194304 → (number place : ℕ) → topOf m ws x y ≡ refused number place → ⊥
   -- the indexed lookup gives none where the plain one does
   pub indexed-none : answerOf m x y ≡ taken none → (s : Sample) → topOf m ws x y ≡ taken s → s ≡ miss
   -- it is never higher

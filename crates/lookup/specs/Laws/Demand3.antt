@@ -20,7 +20,7 @@ use Rattle.lookup.specs.declared.mesh.Best.the-variants.{At, Nothing}
 use Rattle.lookup.specs.declared.sampler.Lane.{Lane}
 use Rattle.lookup.specs.Mesh.{triangles}
 use Rattle.lookup.specs.Box.{inBox}
-use Rattle.lookup.specs.Plain.{entryOf, gives, none, answerOf}
+use Rattle.lookup.specs.Plain.{entryOf, gives, none, plainOf, answerOf}
 use Rattle.lookup.specs.Winner.{Covers, height, normal, Wins, NoNan}
 use Rattle.lookup.specs.Index.{indexWords, buildOf, answerTo, candidatesOf}
 use Rattle.lookup.specs.Consult.{Place, runIn, consultOf}
@@ -214,12 +214,21 @@ module _ (m : Mesh) (ws : List ℕ) (b : BuiltFrom m ws) (x y : Float) where
 
 -- ---- the demand
 
+not-both : {A : Type 0} {a : A} {number place : ℕ} {r : Answer A} → r ≡ taken a → r ≡ refused number place → ⊥
+not-both p q = let z : _≡_ {A = ℕ} 0 1 = cc in omega arith
+
+plain-taken : (m : Mesh) (ws : List ℕ) → BuiltFrom m ws → (x y : Float) (number place : ℕ) → answerOf m x y ≡ refused number place → ⊥
+unfolding answerOf judge
+plain-taken m ws b x y number place e = not-both {a = plainOf m x y} (rw (mesh-fine m (length (b .before)) (b .size) (b .took))) e
+
 pub demand3 : (m : Mesh) (ws : List ℕ) → BuiltFrom m ws → (x y : Float) → Demand3 m ws x y
 demand3 m ws b x y =
     record {
       plain = answer-right m x y;
       plain-none = answer-none m x y;
       never-foreign = never-foreign m ws b x y;
+      plain-taken = plain-taken m ws b x y;
+      indexed-taken = λ l number place e. not-both (top-taken m ws b x y l) e;
       indexed-none = none-where-none m ws b x y;
       never-higher = never-higher m ws b x y;
       winner = λ nn k w i s e. (winner-in-box m ws b x y nn k w i s e, same-answer m ws b x y nn k w i s e);
