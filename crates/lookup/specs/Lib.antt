@@ -11,3 +11,4 @@ pub mod Steps
 pub mod Sampler
 pub mod Demand3
 pub mod Laws
+pub mod SamplerExamples
