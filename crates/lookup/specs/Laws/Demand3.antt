@@ -31,14 +31,9 @@ use Rattle.lookup.specs.Laws.Plain.{bestOf, covers-below, answer-right, 
 use Rattle.lookup.specs.Laws.Scan.{scan-found}
 use Rattle.lookup.specs.Laws.Lanes.{strip-of, strip-lane}
 use Rattle.lookup.specs.Laws.Index.{Hands, hands, candidates-rise, candidate}
-use Rattle.lookup.specs.Laws.Limits.{input-not-foreign, short-index}
+use Rattle.lookup.specs.Laws.Limits.{judged, input-not-foreign, short-index}
 
 -- ---- what a taken building call leaves
-
-judged : {A : Type 0} (f : Fault) (a : Answer A) (s : A) → judge f a ≡ taken s → (f ≡ fine) × (a ≡ taken s)
-unfolding judge
-judged fine a s e = (refl, e)
-judged (fault number place) a s e = let z : _≡_ {A = ℕ} 0 1 = cc in absurd (omega arith)
 
 one-taken : {A : Type 0} (a b : A) → taken a ≡ taken b → a ≡ b
 one-taken a b e = cc

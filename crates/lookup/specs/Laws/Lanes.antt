@@ -1,4 +1,5 @@
--- Demand 3, the lane: over a mesh that came from lanes, the lane named for a triangle is the one whose strip holds it. Assumes nothing.
+-- Demand 3, the lane: over a mesh that came from lanes, the lane named for a triangle is the one whose strip holds it; every triangle is in one strip; and such
+-- a mesh is in order. Assumes nothing.
 use Prim.Native.Nat.{ℕ, zero, suc, _+_, _*_, _/_, _%_, _≤_, _<_, zero-le}
 use mathlib.Core.Path.{_≡_, refl, sym, ap, _∙_}
 use mathlib.Core.Bool.{Bool, false}
@@ -6,18 +7,22 @@ use mathlib.Core.List.{List, [], _∷_}
 use native.Mathlib.Omega.{arith}
 use native.Mathlib.Decide.{decLt}
 use lib.ListN.{length, getD}
-use borrow.Author.Tests.{le-ltb}
+use lib.Dec.{ltb}
+use borrow.Author.Tests.{le-ltb, ltb-false}
 use Rattle.shape.specs.Gather.{gather, any}
 use Rattle.shape.specs.Lists.{wordOf, startOf, endOf, lastEnd, runBad, longer, uneven, meshFault}
-use Rattle.shape.specs.Refusal.{fine}
+use Rattle.shape.specs.declared.mesh.MeshCounts.{MeshCounts}
+use Rattle.shape.specs.Refusal.{fine, refuse, taken}
 use Rattle.shape.specs.Strip.{kept, sixOf, verticesAt, verticesOf}
-use Rattle.shape.specs.SurfaceMesh.{Given, lanesOf, laneAt, laneVertices, laneIndices, laneSpan, spanOf, baseOf, indexOf, meshOf}
+use Rattle.shape.specs.SurfaceMesh.{Given, lanesOf, laneAt, laneVertices, laneIndices, laneSpan, spanOf, baseOf, indexOf, meshOf, inputFault, resultFault, countsOf, resultOf, answerOf}
 use Rattle.shape.specs.Laws.Gather.{gather-fits, gather-at, gather-even, gather-owner, Multiple, gather-multiple}
 use Rattle.shape.specs.Laws.SurfaceMesh.{base-next, index-next, index-owner, owner-ribs, normals-match}
 use Rattle.lookup.specs.declared.sampler.Lane.the-variants.{Id}
 use Rattle.lookup.specs.Mesh.{triangles}
 use Rattle.lookup.specs.Sampler.{pastOf, laneOf}
 use Rattle.lookup.specs.Demand3.{InStrip, idOf}
+use Rattle.lookup.specs.Laws.Heads.{passed}
+use Rattle.lookup.specs.Laws.Limits.{judged}
 use Rattle.lookup.specs.Laws.Spans.{past-is, lane-id}
 
 -- a span is of five words or of none
@@ -214,3 +219,15 @@ module _ (g : Given) where
         vertex-runs,
         index-runs,
       )
+
+  -- so is what a taken call of meshing wrote
+  pub written-in-order : (v n i s : ℕ) (c : MeshCounts) → answerOf g v n i s ≡ taken c → meshFault (meshOf g) ≡ fine
+  unfolding answerOf resultOf resultFault refuse
+  written-in-order v n i s c e =
+      let m = meshOf g in
+      let r = judged (inputFault g) (resultOf g v n i s) c e .1 in
+      let f = judged (resultFault (length (m .vertices)) (length (m .indices)) (length (m .spans)) v n i s) (taken (countsOf (length (m .vertices)) (length (m .indices)) (length (m .spans)))) c r .0 in
+      let a = passed (ltb (3 * 65536) (length (m .vertices))) _ _ _ f in
+      let b = passed (ltb 196608 (length (m .indices))) _ _ _ (a .1) in
+      let d = passed (ltb (5 * 1024) (length (m .spans))) _ _ _ (b .1) in
+      lanes-in-order (ltb-false 196608 _ (a .0)) (ltb-false 196608 _ (b .0)) (ltb-false 5120 _ (d .0))
