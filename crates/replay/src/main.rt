@@ -2,6 +2,7 @@
 // from standard input, in 32-bit words, the low byte first: blocks of an operation's number, the number
 // of its cases, and for each case the count of its input words, these, the count of its answer words,
 // and these. A line for each block says how many cases differ, and the last line for all.
+mod lent;
 mod names;
 mod numbers;
 mod rounding_ops;
