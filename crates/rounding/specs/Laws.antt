@@ -13,6 +13,7 @@ pub mod Whole
 pub mod Width
 pub mod Extremes
 pub mod Column
+pub mod Stored
 pub mod Isqrt
 pub mod RootNearest
 pub mod RootOrder

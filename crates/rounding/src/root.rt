@@ -2,7 +2,7 @@
 // number: no float instruction does it.
 
 ghost use mathlib.Core.Path.{_≡_};
-ghost use Prim.Native.Nat.{_+_, _-_, _*_, _^_, _≤_, _<_};
+ghost use Prim.Native.Nat.{_+_, _-_, _*_, _/_, _^_, _≤_, _<_};
 ghost use lib.Ieee.{Format, prec, emax, low, binary32, binary64, ofBits};
 ghost use Rattle.rounding.specs.Root.{sqrtOf, rootOf};
 ghost use Rattle.rounding.specs.Steps.{Shaped, Root, Rooted, Guessed, Radicand};
@@ -105,6 +105,15 @@ fn root_bits(p: u64, e: u64, b: u64) -> u64
     }
 }
 
+// The root of the number with the bits b, next to 1: it lies half as far from 1. Lengths of directions
+// have such roots.
+fn near_one(b: u32) -> f32
+    requires { ⌜ (b + 8) / 16 ≡ 66584576 ⌝ }
+    ensures { λ r. ⌜ r ≡ sqrtOf binary32 (ofBits binary32 b) ⌝ }
+{
+    f32::from_bits((b + 0x3f80_0000) / 2)
+}
+
 // The square root of x, rounded to the nearest `f32`, a tie to the even one.
 pub fn sqrt32(x: f32) -> f32
     ensures { λ r. ⌜ r ≡ sqrtOf binary32 x ⌝ }
@@ -121,6 +130,9 @@ pub fn sqrt32(x: f32) -> f32
     }
     if b > 0x7f80_0000 {
         return 0.0 / 0.0;
+    }
+    if (b + 8) / 16 == 0x3f8_0000 {
+        return near_one(b);
     }
     f32::from_bits(root_bits(24, 127, b as u64) as u32)
 }

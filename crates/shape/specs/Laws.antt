@@ -2,3 +2,7 @@
 pub mod Gather
 pub mod Memory
 pub mod Lists
+pub mod SurfaceMesh
+pub mod Outline
+pub mod Ears
+pub mod JunctionMesh

@@ -17,7 +17,8 @@ use Rattle.rounding.specs.Column.{bucket, col}
 use Rattle.rounding.specs.Laws.Order.{Le, le→Le, Le→le, Le-right, le-of-lt}
 use Rattle.rounding.specs.Laws.Basics.{or-split}
 use Rattle.rounding.specs.Laws.Rounding.{Signed, round-signed, round-zero, zero-of}
-use Rattle.rounding.specs.Laws.Sums.{sub-mono-left, sub-num}
+use lib.Ieee.Scale.{finite}
+use Rattle.rounding.specs.Laws.Sums.{sub-mono-left, sub-anti-right, sub-num}
 use Rattle.rounding.specs.Laws.Quotients.{div-Le, div-fin, unlike-false}
 use Rattle.rounding.specs.Laws.Count.{Low, low-cast, toUnsigned-mono}
 use Rattle.rounding.specs.Laws.Whole.{cast-floor}
@@ -248,3 +249,18 @@ turned-zero = (refl, refl)
 example : col binary32 (fin false 0 (pos 0)) (fin false 13421773 (negsuc 26)) 100 (fin false 11744051 (negsuc 23)) ≡ 7
 unfolding col
 example = refl
+
+-- ---- two edges that are equal numbers, as the two zeros, give the same columns
+weak-sub-right : (f : Format) (x m n : Float) → T (finite m) → T (finite n) → T (le m n) → Weak (sub f x n) (sub f x m)
+unfolding sub
+weak-sub-right f nan m n p q h = inr tt
+weak-sub-right f (inf s) m n p q h = inl (sub-anti-right f (inf s) m n h (sub-num f (inf s) m tt p) (sub-num f (inf s) n tt q))
+weak-sub-right f (fin s a e) m n p q h = inl (sub-anti-right f (fin s a e) m n h (sub-num f (fin s a e) m tt p) (sub-num f (fin s a e) n tt q))
+
+pub col-equal : (f : Format) (m n cell : Float) (count : ℕ) (x : Float) → Width cell → T (finite m) → T (finite n) → T (le m n) → T (le n m)
+    → col f m cell count x ≡ col f n cell count x
+unfolding col
+col-equal f m n cell count x w p q h k =
+    let a = weak-bucket f (sub f x n) (sub f x m) cell count w (weak-sub-right f x m n p q h) in
+    let b = weak-bucket f (sub f x m) (sub f x n) cell count w (weak-sub-right f x n m q p k) in
+    omega arith

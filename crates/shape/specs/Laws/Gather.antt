@@ -1,14 +1,15 @@
--- Gathering below one number more, how much is gathered, and a test that holds nowhere. Assumes nothing.
-use mathlib.Core.Path.{_≡_, refl, sym}
+-- Gathering below one number more, how much is gathered and where it stands, and a test that holds nowhere. Assumes nothing.
+use mathlib.Core.Path.{_≡_, refl, sym, _∙_}
 use mathlib.Core.Logic.{_⊎_, inl, inr, ⊎-elim}
 use mathlib.Core.Bool.{Bool, true, false, _||_}
 use mathlib.Core.List.{List, _++_}
 use Prim.Native.Nat.{ℕ, zero, suc, _+_, _*_, _≤_, _<_}
 use native.Mathlib.Decide.{decLt}
-use native.Mathlib.Nat.{mul-suc, mul-zero}
+use native.Mathlib.Nat.{mul-suc, mul-zero, mul-add}
 use native.Mathlib.Numerals.{add-one}
 use native.Mathlib.Omega.{arith}
-use lib.ListN.{length, length-append}
+use lib.ListN.{length, getD, length-append, List·getD-append}
+use lib.Seq.{getD-append-add}
 use Rattle.shape.specs.Gather.{gather, any}
 
 below : (i n : ℕ) → i < suc n → (i < n) ⊎ (n ≡ i)
@@ -28,6 +29,58 @@ module _ {ℓ} {A : Type ℓ} (f : ℕ → List A) where
   unfolding gather
   gather-even k e zero = sym (mul-zero k)
   gather-even k e (suc n) = rw (length-append, e, gather-even k e n, mul-suc)
+
+  pub gather-most : (k : ℕ) → ((i : ℕ) → length (f i) ≤ k) → (n : ℕ) → length (gather f n) ≤ k * n
+  unfolding gather
+  gather-most k e zero = omega arith
+  gather-most k e (suc n) = rw (length-append, mul-suc) (omega (arith, gather-most k e n, e n))
+
+  -- element t of what f makes of k, where it stands among all
+  pub gather-at : (n k t : ℕ) (d : A) → k < n → t < length (f k) → getD (gather f n) (length (gather f k) + t) d ≡ getD (f k) t d
+  unfolding gather
+  gather-at zero k t d h p = absurd (omega arith)
+  gather-at (suc n) k t d h p =
+      ⊎-elim
+      (λ q.
+      let e : length (gather f k) + t < length (gather f n) = omega (arith, gather-fits k n q) in
+      List·getD-append (gather f n) (f n) d (length (gather f k) + t) e ∙ gather-at n k t d q p)
+      (λ q. rw q (getD-append-add (gather f k) (f k) t d)) (below k n h)
+
+-- as much is gathered where each gives as much
+pub gather-same {ℓ κ} : {A : Type ℓ} {B : Type κ} (f : ℕ → List A) (h : ℕ → List B) → ((i : ℕ) → length (f i) ≡ length (h i)) → (n : ℕ)
+    → length (gather f n) ≡ length (gather h n)
+unfolding gather
+gather-same f h e zero = refl
+gather-same f h e (suc n) = rw (length-append, length-append, gather-same f h e n, e n)
+
+-- which number an element of what is gathered comes from
+pub record Owner {ℓ} {A : Type ℓ} (f : ℕ → List A) (n t : ℕ) : Type 0 where
+  pub owner : ℕ
+  pub below-n : owner < n
+  pub from : length (gather f owner) ≤ t
+  pub to : t < length (gather f owner) + length (f owner)
+
+pub gather-owner {ℓ} : {A : Type ℓ} (f : ℕ → List A) (n t : ℕ) → t < length (gather f n) → Owner f n t
+unfolding gather
+gather-owner f zero t h = absurd (omega arith)
+gather-owner f (suc n) t h =
+    elim (decLt t (length (gather f n))) [
+      | yes p ↦ let o = gather-owner f n t p in record { owner = o .owner; below-n = omega (arith, o .below-n); from = o .from; to = o .to }
+      | no p ↦ record { owner = n; below-n = omega arith; from = omega arith; to = omega (arith, simp length-append at h) }
+    ]
+
+-- multiples
+pub record Multiple (m n : ℕ) : Type 0 where
+  pub times : ℕ
+  pub is : n ≡ m * times
+
+pub gather-multiple {ℓ} : {A : Type ℓ} (f : ℕ → List A) (m : ℕ) → ((i : ℕ) → Multiple m (length (f i))) → (n : ℕ) → Multiple m (length (gather f n))
+unfolding gather
+gather-multiple f m h zero = record { times = 0; is = sym (mul-zero m) }
+gather-multiple f m h (suc n) =
+    let a = gather-multiple f m h n in
+    let b = h n in
+    record { times = a .times + b .times; is = rw (length-append, a .is, b .is, mul-add) }
 
 -- an alternative that fails, fails on both sides
 pub or-left : (a b : Bool) → (a || b) ≡ false → a ≡ false

@@ -38,14 +38,23 @@ returns-4 c =
     let x = s .args .x in
     sym (neg-root binary32 x (held s) (no-nan x (c .before .before .before .if1 .left)) (c .if4 .taken) (λ z. c .before .before .if2 .left (and-mask (toBits binary32 x) 31 ∙ z)))
 
+add-if5 : tie.Need-add-if5
+add-if5 c = search needs
+
+near-one-requires : tie.Need-near-one-requires
+near-one-requires c κs = search needs
+
+returns-5 : tie.Need-returns-5
+returns-5 c = let s = c .before .before .before .before .before .before in c .near-one .ensures ∙ ap (sqrtOf binary32) (ofBits-toBits binary32 (s .args .x) (held s))
+
 cast-root-bits : tie.Need-cast-root-bits
 cast-root-bits c = search needs
 
 root-bits-requires : tie.Need-root-bits-requires
 root-bits-requires c κs =
-    let x = c .before .before .before .before .args .x in
-    let m : toBits binary32 x ≢ ones binary32 * hid binary32 = c .before .if3 .left in
-    (record { format = binary32; digits = refl; largest = refl }, (some-bits (toBits binary32 x) (2 ^ 31 - 1) (c .before .before .if2 .left), omega (arith, c .if4 .left)))
+    let x = c .before .before .before .before .before .args .x in
+    let m : toBits binary32 x ≢ ones binary32 * hid binary32 = c .before .before .if3 .left in
+    (record { format = binary32; digits = refl; largest = refl }, (some-bits (toBits binary32 x) (2 ^ 31 - 1) (c .before .before .before .if2 .left), omega (arith, c .before .if4 .left)))
 
 cast-result : tie.Need-cast-result
 cast-result c = omega (arith, c .root-bits .ensures binary32 refl refl .finite)
@@ -53,9 +62,9 @@ cast-result c = omega (arith, c .root-bits .ensures binary32 refl refl .finite)
 float-from-bits-result : tie.Need-float-from-bits-result
 float-from-bits-result c = result-no-nan binary32 (c .root-bits .result) (c .root-bits .ensures binary32 refl refl .finite)
 
-returns-5 : tie.Need-returns-5
-returns-5 c =
-    let s = c .before .before .before .before .before in
+returns-6 : tie.Need-returns-6
+returns-6 c =
+    let s = c .before .before .before .before .before .before in
     c .root-bits .ensures binary32 refl refl .value ∙ ap (sqrtOf binary32) (ofBits-toBits binary32 (s .args .x) (held s))
 
 pub sqrt32-spec : {M : Type 1} → statement M
@@ -67,8 +76,11 @@ sqrt32-spec =
     returns-2
     returns-3
     returns-4
+    add-if5
+    near-one-requires
+    returns-5
     cast-root-bits
     root-bits-requires
     cast-result
     float-from-bits-result
-    returns-5)
+    returns-6)

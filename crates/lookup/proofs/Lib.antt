@@ -1,0 +1,8 @@
+-- The lemmas that the proofs of the functions cite.
+pub mod Turns
+pub mod Distant
+pub mod Sums
+pub mod Visit
+pub mod Runs
+pub mod Chain
+pub mod Search

@@ -1,0 +1,219 @@
+-- Demand 3, the indexed lookup, for an index that was built from the mesh, with the plain lookup beside it. It is never refused as foreign; it gives none
+-- where the plain lookup gives none and is never higher; and where the winner's grown box holds the point it gives the winner, as the plain lookup does.
+-- Assumes nothing.
+use Prim.Native.Nat.{ℕ, _+_, _-_, _≤_}
+use mathlib.Core.Path.{_≡_, refl, sym, ap, _∙_, subst}
+use mathlib.Core.Bool.{true}
+use mathlib.Core.List.{List, _++_}
+use native.Mathlib.Omega.{arith}
+use lib.Dec.{T, ltb}
+use lib.ListN.{length, take, drop}
+use lib.Seq.{take-append-add, take-append-seam}
+use lib.Ieee.{Float, le}
+use borrow.Author.Tests.{ltb-false}
+use Rattle.vector.specs.declared.coords.Vector.{Vector}
+use Rattle.shape.specs.Lists.{Mesh, meshFault}
+use Rattle.shape.specs.SurfaceMesh.{Given, meshOf}
+use Rattle.shape.specs.Refusal.{Fault, fine, fault, refuse, Answer, taken, refused, judge, leaves}
+use Rattle.lookup.specs.declared.mesh.Best.{Best}
+use Rattle.lookup.specs.declared.mesh.Best.the-variants.{At, Nothing}
+use Rattle.lookup.specs.declared.sampler.Lane.{Lane}
+use Rattle.lookup.specs.declared.sampler.Lane.the-variants.{Id}
+use Rattle.lookup.specs.Mesh.{triangles}
+use Rattle.lookup.specs.Box.{inBox}
+use Rattle.lookup.specs.Plain.{entryOf, gives, none, answerOf}
+use Rattle.lookup.specs.Winner.{Covers, height, normal, Wins, NoNan}
+use Rattle.lookup.specs.Index.{indexWords, buildOf, answerTo, candidatesOf}
+use Rattle.lookup.specs.Consult.{Place, runIn, consultOf}
+use Rattle.lookup.specs.Sampler.{laneOf, Sample, hit, miss, lookupIn, sampleOf, sampleIn, onward, topFault, topOf}
+use Rattle.lookup.specs.Demand3.{BuiltFrom, InStrip, idOf}
+use Rattle.lookup.specs.Laws.Heads.{passed}
+use Rattle.lookup.specs.Laws.Plain.{bestOf, covers-below, answer-right, answer-none, plain-winner, run-none, run-never-higher, run-winner}
+use Rattle.lookup.specs.Laws.Scan.{scan-found}
+use Rattle.lookup.specs.Laws.Lanes.{strip-of, strip-lane}
+use Rattle.lookup.specs.Laws.Index.{Hands, hands, candidates-rise, candidate}
+use Rattle.lookup.specs.Laws.Limits.{input-not-foreign, short-index}
+
+-- ---- what a taken building call leaves
+
+judged : {A : Type 0} (f : Fault) (a : Answer A) (s : A) → judge f a ≡ taken s → (f ≡ fine) × (a ≡ taken s)
+unfolding judge
+judged fine a s e = (refl, e)
+judged (fault number place) a s e = let z : _≡_ {A = ℕ} 0 1 = cc in absurd (omega arith)
+
+one-taken : {A : Type 0} (a b : A) → taken a ≡ taken b → a ≡ b
+one-taken a b e = cc
+
+-- the mesh was in order
+pub mesh-fine : (m : Mesh) (room n : ℕ) → buildOf m room ≡ taken n → meshFault m ≡ fine
+unfolding buildOf
+mesh-fine m room n e = judged (meshFault m) (answerTo (indexWords (m .vertices) (m .indices)) room) n e .0
+
+-- the count is that of the index's words
+size-is : (m : Mesh) (room n : ℕ) → buildOf m room ≡ taken n → n ≡ length (indexWords (m .vertices) (m .indices))
+unfolding buildOf answerTo
+size-is m room n e =
+    let p = judged (meshFault m) (answerTo (indexWords (m .vertices) (m .indices)) room) n e .1 in
+    let k = length (indexWords (m .vertices) (m .indices)) in
+    let q = judged (refuse (ltb 4194304 k) 1 4194304 (refuse (ltb room k) 3 k fine)) (taken k) n p .1 in
+    sym (one-taken k n q)
+
+-- which are within the limit
+few-words : (m : Mesh) (room n : ℕ) → buildOf m room ≡ taken n → n ≤ 4194304
+unfolding buildOf answerTo refuse
+few-words m room n e =
+    let p = judged (meshFault m) (answerTo (indexWords (m .vertices) (m .indices)) room) n e .1 in
+    let k = length (indexWords (m .vertices) (m .indices)) in
+    let q = judged (refuse (ltb 4194304 k) 1 4194304 (refuse (ltb room k) 3 k fine)) (taken k) n p .0 in
+    let r = ltb-false 4194304 k (passed (ltb 4194304 k) 1 4194304 (refuse (ltb room k) 3 k fine) q .0) in
+    omega (arith, r, size-is m room n e)
+
+-- so the words are those of the index of the mesh, and then others
+pub record Words (m : Mesh) (ws : List ℕ) : Type 0 where
+  pub rest : List ℕ
+  pub are : ws ≡ indexWords (m .vertices) (m .indices) ++ rest
+
+pub words : (m : Mesh) (ws : List ℕ) → BuiltFrom m ws → Words m ws
+unfolding leaves
+words m ws b =
+    let o = indexWords (m .vertices) (m .indices) in
+    let n = size-is m (length (b .before)) (b .size) (b .took) in
+    let z : b .kept ≡ length o + (b .kept - length o) = omega (arith, b .enough) in
+    let e : leaves (buildOf m (length (b .before))) o (b .before) ≡ o ++ drop (length o) (b .before) = rw (b .took) in
+    record {
+      rest = take (b .kept - length o) (drop (length o) (b .before));
+      are = b .is ∙ ap (take (b .kept)) e ∙ ap (λ (k : ℕ). take k (o ++ drop (length o) (b .before))) z ∙ take-append-add o (drop (length o) (b .before)) (b .kept - length o);
+    }
+
+-- the words alone, with nothing past them, are within the limit
+pub words-fit : (m : Mesh) (ws : List ℕ) (b : BuiltFrom m ws) → b .kept ≡ b .size → length ws ≤ 4194304
+unfolding leaves
+words-fit m ws b q =
+    let o = indexWords (m .vertices) (m .indices) in
+    let n = size-is m (length (b .before)) (b .size) (b .took) in
+    let e : leaves (buildOf m (length (b .before))) o (b .before) ≡ o ++ drop (length o) (b .before) = rw (b .took) in
+    let w : ws ≡ o = b .is ∙ ap (take (b .kept)) e ∙ ap (λ (k : ℕ). take k (o ++ drop (length o) (b .before))) (q ∙ n) ∙ take-append-seam o (drop (length o) (b .before)) in
+    let l : length ws ≡ length o = ap (λ (xs : List ℕ). length xs) w in
+    omega (arith, l, n, few-words m (length (b .before)) (b .size) (b .took))
+
+-- ---- a hit, whatever the index
+
+-- what is given is a covering triangle's: its height, its normal and its lane
+pub record Held (m : Mesh) (x y : Float) (h : Float) (n : Vector) (t : ℕ) (l : Lane) : Type 0 where
+  pub covered : Covers m x y t
+  pub is-height : h ≡ height m x y t
+  pub is-normal : n ≡ normal m x y t
+  pub is-lane : l ≡ laneOf (m .spans) t
+
+module _ (m : Mesh) (ws : List ℕ) (x y : Float) (h : Float) (n : Vector) (t : ℕ) (l : Lane) where
+  held-in : (run : List ℕ) → sampleIn m x y run ≡ hit h n t l → Held m x y h n t l
+  unfolding sampleIn sampleOf
+  held-in run e = go (bestOf m x y (entryOf run) (length run)) refl e
+    where
+      go : (s : Best) → bestOf m x y (entryOf run) (length run) ≡ s → sampleOf m x y s ≡ hit h n t l → Held m x y h n t l
+      go (At g j) q z =
+          let f = scan-found (m .vertices) (m .indices) x y (entryOf run) (length run) q in
+          let u : j ≡ t = cc in
+          let v : g ≡ h = cc in
+          let w : normal m x y j ≡ n = cc in
+          let o : laneOf (m .spans) j ≡ l = cc in
+          rw (← u, ← v, ← w, ← o) (record { covered = f .covered; is-height = f .height; is-normal = refl; is-lane = refl })
+      go Nothing q z = let u : _≡_ {A = ℕ} 0 1 = cc in absurd (omega arith)
+
+  pub hit-held : topOf m ws x y ≡ taken (hit h n t l) → Held m x y h n t l
+  unfolding topOf onward
+  hit-held e = go (consultOf ws (triangles (m .indices)) x y) (judged (topFault m ws) (onward (consultOf ws (triangles (m .indices)) x y) (λ (p : Place). sampleIn m x y (runIn ws p))) (hit h n t l) e .1)
+    where
+      go : (a : Answer Place) → onward a (λ (p : Place). sampleIn m x y (runIn ws p)) ≡ taken (hit h n t l) → Held m x y h n t l
+      go (taken p) q = held-in (runIn ws p) (one-taken (sampleIn m x y (runIn ws p)) (hit h n t l) q)
+      go (refused number place) q = let z : _≡_ {A = ℕ} 0 1 = cc in absurd (omega arith)
+
+-- ---- the lane: over a mesh that came from lanes, a hit names the lane whose strip holds the triangle
+
+pub record NamesLane (g : Given) (t : ℕ) (l : Lane) : Type 0 where
+  pub of : ℕ
+  pub in-strip : InStrip g t of
+  pub named : l ≡ Id (idOf g of)
+
+pub lane-named : (g : Given) (ws : List ℕ) (x y : Float) (h : Float) (n : Vector) (t : ℕ) (l : Lane)
+    → topOf (meshOf g) ws x y ≡ taken (hit h n t l) → NamesLane g t l
+lane-named g ws x y h n t l e =
+    let k = hit-held (meshOf g) ws x y h n t l e in
+    let s = strip-of g t (covers-below (meshOf g) x y t (k .covered)) in
+    record { of = s .of; in-strip = s .in-strip; named = k .is-lane ∙ strip-lane g t (s .of) (s .in-strip) }
+
+-- ---- an index that was built from the mesh
+
+module _ (m : Mesh) (ws : List ℕ) (b : BuiltFrom m ws) (x y : Float) where
+  handed : Hands ws (triangles (m .indices)) x y (candidatesOf (m .vertices) (m .indices) x y)
+  handed = let w = words m ws b in subst (λ (o : List ℕ). Hands o (triangles (m .indices)) x y (candidatesOf (m .vertices) (m .indices) x y)) (sym (w .are)) (hands (m .vertices) (m .indices) (w .rest) x y)
+
+  consulted : onward (consultOf ws (triangles (m .indices)) x y) (λ (p : Place). sampleIn m x y (runIn ws p)) ≡ taken (sampleIn m x y (candidatesOf (m .vertices) (m .indices) x y))
+  unfolding onward
+  consulted = rw (handed .answers, handed .is)
+
+  top-is : topOf m ws x y ≡ judge (topFault m ws) (taken (sampleIn m x y (candidatesOf (m .vertices) (m .indices) x y)))
+  unfolding topOf
+  top-is = rw consulted
+
+  -- an index as long as the limit or shorter is taken
+  pub top-taken : length ws ≤ 4194304 → topOf m ws x y ≡ taken (sampleIn m x y (candidatesOf (m .vertices) (m .indices) x y))
+  unfolding judge
+  top-taken l = top-is ∙ rw (short-index m ws l, mesh-fine m (length (b .before)) (b .size) (b .took))
+
+  -- "it is never foreign to that mesh"
+  pub never-foreign : (place : ℕ) → topOf m ws x y ≡ refused 4 place → ⊥
+  unfolding judge
+  never-foreign place e = go (topFault m ws) (input-not-foreign m ws) (sym top-is ∙ e)
+    where
+      go : (f : Fault) → ((p : ℕ) → f ≡ fault 4 p → ⊥) → judge f (taken (sampleIn m x y (candidatesOf (m .vertices) (m .indices) x y))) ≡ refused 4 place → ⊥
+      go fine h k = let z : _≡_ {A = ℕ} 0 1 = cc in omega arith
+      go (fault number p) h k = h p (cc)
+
+  -- what a taken call gave
+  gave : (s : Sample) → topOf m ws x y ≡ taken s → s ≡ sampleIn m x y (candidatesOf (m .vertices) (m .indices) x y)
+  gave s e =
+      sym (one-taken (sampleIn m x y (candidatesOf (m .vertices) (m .indices) x y)) s
+      (judged (topFault m ws) (taken (sampleIn m x y (candidatesOf (m .vertices) (m .indices) x y))) s (sym top-is ∙ e) .1))
+
+  -- ---- none where the plain lookup gives none
+
+  pub none-where-none : answerOf m x y ≡ taken none → (s : Sample) → topOf m ws x y ≡ taken s → s ≡ miss
+  unfolding sampleIn sampleOf
+  none-where-none p s e =
+      let c = candidatesOf (m .vertices) (m .indices) x y in
+      gave s e ∙ ap (sampleOf m x y) (run-none m x y (entryOf c) (length c) (answer-none m x y none p .0 refl))
+
+  -- ---- never higher
+
+  pub never-higher : NoNan m x y → (h : Float) (n : Vector) (k : ℕ) → answerOf m x y ≡ taken (gives h n k)
+      → (h′ : Float) (n′ : Vector) (k′ : ℕ) (l : Lane) → topOf m ws x y ≡ taken (hit h′ n′ k′ l) → T (le h′ h)
+  unfolding sampleIn sampleOf
+  never-higher nn h n k p h′ n′ k′ l e = go (bestOf m x y (entryOf c) (length c)) refl (gave (hit h′ n′ k′ l) e)
+    where
+      c : List ℕ
+      c = candidatesOf (m .vertices) (m .indices) x y
+
+      go : (s : Best) → bestOf m x y (entryOf (candidatesOf (m .vertices) (m .indices) x y)) (length (candidatesOf (m .vertices) (m .indices) x y)) ≡ s → hit h′ n′ k′ l ≡ sampleOf m x y s → T (le h′ h)
+      go (At g j) q z =
+          let r = answer-right m x y nn (gives h n k) p in
+          let u : h′ ≡ g = cc in
+          rw (u, r .1) (run-never-higher m x y (entryOf (candidatesOf (m .vertices) (m .indices) x y)) (length (candidatesOf (m .vertices) (m .indices) x y)) k (r .0) q)
+      go Nothing q z = let u : _≡_ {A = ℕ} 0 1 = cc in absurd (omega arith)
+
+  -- ---- the winner, where its grown box holds the point
+
+  pub winner-in-box : NoNan m x y → (k : ℕ) → Wins m x y k → inBox (m .vertices) (m .indices) k x y ≡ true
+      → (s : Sample) → topOf m ws x y ≡ taken s → s ≡ hit (height m x y k) (normal m x y k) k (laneOf (m .spans) k)
+  unfolding sampleIn sampleOf
+  winner-in-box nn k w i s e =
+      let c = candidatesOf (m .vertices) (m .indices) x y in
+      let a = candidate (m .vertices) (m .indices) k x y i in
+      gave s e ∙ ap (sampleOf m x y) (run-winner m x y (entryOf c) (length c) nn (candidates-rise (m .vertices) (m .indices) x y) k w (a .at) (a .in-range) (a .is))
+
+  -- so the two lookups give the same height, normal and triangle
+  pub same-answer : NoNan m x y → (k : ℕ) → Wins m x y k → inBox (m .vertices) (m .indices) k x y ≡ true
+      → (s : Sample) → topOf m ws x y ≡ taken s → answerOf m x y ≡ taken (lookupIn s)
+  unfolding lookupIn answerOf judge
+  same-answer nn k w i s e =
+      rw (winner-in-box nn k w i s e, mesh-fine m (length (b .before)) (b .size) (b .took)) (ap taken (plain-winner m x y nn k w))

@@ -1,0 +1,105 @@
+-- Document 01, "Height under a wheel": what the indexed lookup answers. "The indexed one adds the lane, if any". Definitions only. Assumes nothing.
+use Prim.Native.Nat.{ℕ, zero, suc, _*_, _/_, _≤_, _<_}
+use mathlib.Core.Bool.{_&&_, cond}
+use mathlib.Core.List.{List}
+use lib.ListN.{length}
+use lib.Dec.{ltb, leb}
+use lib.Ieee.{Float}
+use Rattle.vector.specs.declared.coords.Vector.{Vector}
+use Rattle.shape.specs.Gather.{any}
+use Rattle.shape.specs.Lists.{Mesh, longer, uneven, wordOf, startOf, endOf, runBad}
+use Rattle.shape.specs.Refusal.{Fault, fine, refuse, Answer, taken, refused, judge, numberOf, placeOf}
+use Rattle.lookup.specs.declared.mesh.Best.{Best}
+use Rattle.lookup.specs.declared.mesh.Best.the-variants.{At, Nothing}
+use Rattle.lookup.specs.declared.sampler.Lane.{Lane}
+use Rattle.lookup.specs.declared.sampler.Lane.the-variants.{Id, None}
+use Rattle.lookup.specs.declared.sampler.Sampled.{Sampled}
+use Rattle.lookup.specs.declared.sampler.Sampled.the-variants as sampled
+use Rattle.lookup.specs.Mesh.{triangles}
+use Rattle.lookup.specs.Cover.{normalOf}
+use Rattle.lookup.specs.Plain.{scanOf, entryOf, Lookup, gives, none}
+use Rattle.lookup.specs.Consult.{Place, runIn, consultOf}
+
+-- ---- the refusals of the input, where the index is list 4
+
+-- the limits of a mesh's lists, and what comes after
+unfoldable pub meshLimits : Mesh → Fault → Fault
+unfolding refuse longer
+meshLimits m after =
+    refuse (longer 3 65536 (m .vertices)) 1 65536
+    (refuse (longer 3 65536 (m .normals)) 1 65536
+    (refuse (longer 1 196608 (m .indices)) 1 196608
+    (refuse (longer 5 1024 (m .spans)) 1 1024 after)))
+
+-- its first ragged list
+unfoldable pub meshRagged : Mesh → Fault
+unfolding refuse uneven any runBad
+meshRagged m =
+    refuse (uneven 3 (m .vertices)) 2 0
+    (refuse (uneven 3 (m .normals)) 2 1
+    (refuse (uneven 5 (m .spans)) 2 3
+    (refuse (any (runBad 5 1 (m .spans) (length (m .vertices) / 3)) (length (m .spans) / 5)) 2 3
+    (refuse (any (runBad 5 3 (m .spans) (length (m .indices))) (length (m .spans) / 5)) 2 3 fine))))
+
+-- "order: 1 for input, 2": all limits, the index's 4,194,304 words the last of them, and then what is ragged
+unfoldable pub topFault : Mesh → List ℕ → Fault
+unfolding meshLimits meshRagged
+topFault m ws = meshLimits m (refuse (longer 1 4194304 ws) 1 4194304 (meshRagged m))
+
+-- ---- the lane of a triangle. A span's words are its lane's id, the run of its vertices and the run of its indices.
+
+-- the first of the first n spans whose run of indices ends past i, or n
+unfoldable pub pastOf : List ℕ → ℕ → ℕ → ℕ
+unfolding wordOf
+pastOf ss i zero = zero
+pastOf ss i (suc n) = cond (ltb (pastOf ss i n) n) (pastOf ss i n) (cond (ltb i (endOf 5 3 ss n)) n (suc n))
+
+-- that span's lane, if its run holds the triangle's first index
+unfoldable pub laneOf : List ℕ → ℕ → Lane
+unfolding pastOf
+laneOf ss t =
+    let n = length ss / 5 in
+    let k = pastOf ss (3 * t) n in
+    cond (ltb k n && leb (startOf 5 3 ss k) (3 * t)) (Id (wordOf 5 ss k 0)) None
+
+-- of the first n spans, none ends before the one before it
+abbrev pub EndsRise : List ℕ → ℕ → Type 0
+EndsRise ss n = (j k : ℕ) → j ≤ k → k < n → endOf 5 3 ss j ≤ endOf 5 3 ss k
+
+-- ---- the answer
+
+-- height, normal, triangle and lane, or none
+pub data Sample : Type 0 where
+  hit : Float → Vector → ℕ → Lane → Sample
+  miss : Sample
+
+-- what the plain lookup also gives
+unfoldable pub lookupIn : Sample → Lookup
+lookupIn (hit h n t l) = gives h n t
+lookupIn miss = none
+
+unfoldable pub sampleOf : Mesh → Float → Float → Best → Sample
+sampleOf m x y (At h t) = hit h (normalOf (m .vertices) (m .normals) (m .indices) t x y) t (laneOf (m .spans) t)
+sampleOf m x y Nothing = miss
+
+-- the best of a run of triangle numbers
+unfoldable pub sampleIn : Mesh → Float → Float → List ℕ → Sample
+unfolding sampleOf scanOf
+sampleIn m x y run = sampleOf m x y (scanOf (m .vertices) (m .indices) x y (entryOf run) (length run))
+
+-- what is made of an answer that is taken
+unfoldable pub onward : {A B : Type 0} → Answer A → (A → B) → Answer B
+onward (taken a) f = taken (f a)
+onward (refused number place) f = refused number place
+
+-- the answer to the call, for any words: the candidates are those of the cell consulted, the mesh's triangles give the count that word 0 must be
+unfoldable pub topOf : Mesh → List ℕ → Float → Float → Answer Sample
+unfolding judge onward topFault
+topOf m ws x y = judge (topFault m ws) (onward (consultOf ws (triangles (m .indices)) x y) (λ (p : Place). sampleIn m x y (runIn ws p)))
+
+-- document 01's values of each case of the code's
+unfoldable pub readSampled : Sampled → Answer Sample
+unfolding numberOf placeOf
+readSampled (sampled.Found h n t l) = taken (hit h n t l)
+readSampled sampled.None = taken miss
+readSampled (sampled.Refused r) = refused (numberOf r) (placeOf r)

@@ -1,0 +1,4 @@
+// The two height lookups over a mesh, and the index that serves the second.
+pub mod grid;
+pub mod mesh;
+pub mod sampler;

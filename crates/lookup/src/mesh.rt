@@ -1,0 +1,323 @@
+// Triangles of a mesh, and the plain lookup over them. A mesh is four lent lists: the vertices'
+// coordinates and the normals' in threes, the triangles' vertex numbers in threes, and the lanes' spans.
+ghost use mathlib.Core.Path.{_≡_};
+ghost use mathlib.Core.Bool.{true, false};
+ghost use Prim.Native.Nat.{_+_, _*_, _<_, _^_};
+ghost use lib.ListN.{length};
+ghost use Rattle.shape.specs.Lists.{pointAt, meshLists};
+ghost use Rattle.lookup.specs.Mesh.{cornersOf, normalAt, triangles};
+ghost use Rattle.lookup.specs.Cover.{detOf, overA, weightA, weightB, weightsOf, insideOf, liftOf, faceUp, smoothOf, blendOf, flatOf, normalOf};
+ghost use Rattle.lookup.specs.Plain.{higherOf, scanOf, entryOf, readAnswer, answerOf};
+use rounding::extremes::abs32;
+use shape::lists::mesh_fault;
+use shape::lists::vector_at;
+use shape::lists::word_at;
+use shape::refusal::Check;
+use shape::refusal::Refusal;
+use vector::coords::Point;
+use vector::coords::Vector;
+
+// The corners of a triangle, or that one lies past the vertices.
+pub enum Fetch {
+    Corners(Point, Point, Point),
+    Missing,
+}
+
+// The weights of the three corners at a point, and the determinant that they were divided by.
+pub struct Weights {
+    pub det: f32,
+    pub a: f32,
+    pub b: f32,
+    pub c: f32,
+}
+
+// The highest triangle so far: its height and number.
+pub enum Best {
+    At(f32, usize),
+    Nothing,
+}
+
+// What the plain lookup answers: height, normal and triangle, or none, or why the call is turned back.
+pub enum Answer {
+    Found(f32, Vector, usize),
+    None,
+    Refused(Refusal),
+}
+
+fn wide(i: u32) -> usize
+    ensures { λ r. ⌜ r ≡ i ⌝ }
+{
+    i as usize
+}
+
+// Vertex i, which is there.
+fn vertex(vertices: &[f32], i: usize) -> Point
+    requires { ⌜ 3 * i + 2 < length (now vertices) ⌝ }
+    ensures { λ r. ⌜ r ≡ pointAt (now (vertices .entry)) i ⌝ }
+{
+    let at = 3 * i;
+    Point {
+        x: vertices[at],
+        y: vertices[at + 1],
+        z: vertices[at + 2],
+    }
+}
+
+// The corners of triangle t.
+pub fn corners(vertices: &[f32], indices: &[u32], t: usize) -> Fetch
+    ensures { λ r. ⌜ r ≡ cornersOf (now (vertices .entry)) (now (indices .entry)) t ⌝ }
+{
+    if t < indices.len() / 3 {
+        let n = vertices.len() / 3;
+        let at = 3 * t;
+        let ia = wide(indices[at]);
+        if ia < n {
+            let ib = wide(indices[at + 1]);
+            if ib < n {
+                let ic = wide(indices[at + 2]);
+                if ic < n {
+                    return Fetch::Corners(
+                        vertex(vertices, ia),
+                        vertex(vertices, ib),
+                        vertex(vertices, ic),
+                    );
+                }
+            }
+        }
+    }
+    Fetch::Missing
+}
+
+// Twice the triangle's area as seen from above, positive where a, b and c turn left.
+fn det(a: Point, b: Point, c: Point) -> f32
+    ensures { λ r. ⌜ r ≡ detOf a b c ⌝ }
+{
+    (b.y - c.y) * (a.x - c.x) + (c.x - b.x) * (a.y - c.y)
+}
+
+// The weight of corner a at (x, y), times the determinant.
+fn over_a(b: Point, c: Point, x: f32, y: f32) -> f32
+    ensures { λ r. ⌜ r ≡ overA b c x y ⌝ }
+{
+    (b.y - c.y) * (x - c.x) + (c.x - b.x) * (y - c.y)
+}
+
+// The weight of corner a at (x, y).
+fn weight_a(a: Point, b: Point, c: Point, x: f32, y: f32) -> f32
+    ensures { λ r. ⌜ r ≡ weightA a b c x y ⌝ }
+{
+    over_a(b, c, x, y) / det(a, b, c)
+}
+
+// The weight of corner b at (x, y).
+fn weight_b(a: Point, b: Point, c: Point, x: f32, y: f32) -> f32
+    ensures { λ r. ⌜ r ≡ weightB a b c x y ⌝ }
+{
+    ((c.y - a.y) * (x - c.x) + (a.x - c.x) * (y - c.y)) / det(a, b, c)
+}
+
+// The weights of the corners at (x, y), in the triangle's view from above.
+pub fn weigh(a: Point, b: Point, c: Point, x: f32, y: f32) -> Weights
+    ensures { λ r. ⌜ r ≡ weightsOf a b c x y ⌝ }
+{
+    let l1 = weight_a(a, b, c, x, y);
+    let l2 = weight_b(a, b, c, x, y);
+    Weights {
+        det: det(a, b, c),
+        a: l1,
+        b: l2,
+        c: 1.0 - l1 - l2,
+    }
+}
+
+// Is the point so far off that the weight of corner a tells? Above 2 in size it is itself too low, or
+// what it leaves for b and c is. Nearly all triangles of a mesh go by this one test, and all one way.
+// A NaN is left to the full test. Asking for it between the two sums keeps the compiler from weaving
+// them into one, which costs more than it saves.
+fn far(a: Point, b: Point, c: Point, x: f32, y: f32) -> bool
+    ensures { λ r. ⌜ (r ≡ true → insideOf (weightsOf a b c x y) ≡ false) ⌝ }
+{
+    let over = over_a(b, c, x, y);
+    if over != over {
+        return false;
+    }
+    let l1 = over / det(a, b, c);
+    l1 * l1 > 4.0
+}
+
+impl Weights {
+    // Has the triangle a footprint, and does the point lie in it? A NaN among the weights fails its test.
+    pub fn inside(self) -> bool
+        ensures { λ r. ⌜ r ≡ insideOf self ⌝ }
+    {
+        if abs32(self.det) < 1e-9 {
+            return false;
+        }
+        if self.a >= -1e-4 {
+            if self.b >= -1e-4 {
+                return self.c >= -1e-4;
+            }
+        }
+        false
+    }
+
+    // The triangle's height at the point.
+    pub fn height(self, a: Point, b: Point, c: Point) -> f32
+        ensures { λ r. ⌜ r ≡ liftOf self (a .z) (b .z) (c .z) ⌝ }
+    {
+        self.a * a.z + self.b * b.z + self.c * c.z
+    }
+
+    // The direction of the corners' normals by their weights.
+    fn smooth(self, na: Vector, nb: Vector, nc: Vector) -> Vector
+        ensures { λ r. ⌜ r ≡ smoothOf self na nb nc ⌝ }
+    {
+        let sum = na.mul(self.a).add(nb.mul(self.b)).add(nc.mul(self.c));
+        sum.normalize_or(Vector::Z)
+    }
+}
+
+impl Best {
+    // The best so far after triangle t of height h: the lower number stays where the heights are equal.
+    pub fn higher(self, h: f32, t: usize) -> Best
+        ensures { λ r. ⌜ r ≡ higherOf self h t ⌝ }
+    {
+        match self {
+            Best::At(g, k) => {
+                if h <= g {
+                    return Best::At(g, k);
+                }
+                Best::At(h, t)
+            }
+            Best::Nothing => Best::At(h, t),
+        }
+    }
+}
+
+// ---- normals
+
+// The normal of vertex i: up where the normals do not reach so far.
+fn normal_at(normals: &[f32], i: usize) -> Vector
+    requires { ⌜ i < 2 ^ 62 ⌝ }
+    ensures { λ r. ⌜ r ≡ normalAt (now (normals .entry)) i ⌝ }
+{
+    if i < normals.len() / 3 {
+        return vector_at(normals, i);
+    }
+    Vector::Z
+}
+
+// The triangle's own direction.
+fn flat(a: Point, b: Point, c: Point) -> Vector
+    ensures { λ r. ⌜ r ≡ flatOf a b c ⌝ }
+{
+    b.sub(a).cross(c.sub(a)).normalize_or(Vector::Z)
+}
+
+// Turned over where it points down, whichever way round the triangle's corners go.
+fn face_up(n: Vector) -> Vector
+    ensures { λ r. ⌜ r ≡ faceUp n ⌝ }
+{
+    if n.z < 0.0 {
+        return n.neg();
+    }
+    n
+}
+
+// The direction of the normals of triangle t's corners by their weights. The triangle is there.
+fn blend(normals: &[f32], indices: &[u32], t: usize, w: Weights) -> Vector
+    requires { ⌜ t < triangles (now indices) ⌝ }
+    ensures { λ r. ⌜ r ≡ blendOf (now (normals .entry)) (now (indices .entry)) t w ⌝ }
+{
+    let at = 3 * t;
+    let na = normal_at(normals, word_at(indices, at));
+    let nb = normal_at(normals, word_at(indices, at + 1));
+    let nc = normal_at(normals, word_at(indices, at + 2));
+    w.smooth(na, nb, nc)
+}
+
+// The normal of triangle t at (x, y), from the corners' normals so that it does not snap at an edge. With
+// more normals than vertices it is the triangle's own. Up where there is no such triangle.
+pub fn normal_of(
+    vertices: &[f32],
+    normals: &[f32],
+    indices: &[u32],
+    t: usize,
+    x: f32,
+    y: f32,
+) -> Vector
+    ensures { λ r. ⌜ r ≡ normalOf (now (vertices .entry)) (now (normals .entry)) (now (indices .entry)) t x y ⌝ }
+{
+    let Fetch::Corners(a, b, c) = corners(vertices, indices, t) else {
+        return Vector::Z;
+    };
+    if vertices.len() / 3 < normals.len() / 3 {
+        return face_up(flat(a, b, c));
+    }
+    face_up(blend(normals, indices, t, weigh(a, b, c, x, y)))
+}
+
+// ---- the lookup
+
+// The best of the triangles that a run of triangle numbers names, in its order.
+pub fn highest(vertices: &[f32], indices: &[u32], run: &[u32], x: f32, y: f32) -> Best
+    ensures { λ r. ⌜ r ≡ scanOf (now (vertices .entry)) (now (indices .entry)) x y (entryOf (now (run .entry))) (length (now (run .entry))) ⌝ }
+{
+    let mut best = Best::Nothing;
+    for i in 0..run.len() {
+        let t = wide(run[i]);
+        let Fetch::Corners(a, b, c) = corners(vertices, indices, t) else {
+            continue;
+        };
+        if far(a, b, c, x, y) {
+            continue;
+        }
+        let w = weigh(a, b, c, x, y);
+        if !w.inside() {
+            continue;
+        }
+        best = best.higher(w.height(a, b, c), t);
+    }
+    best
+}
+
+// The best of all triangles, by their numbers.
+fn highest_of_all(vertices: &[f32], indices: &[u32], x: f32, y: f32) -> Best
+    ensures { λ r. ⌜ r ≡ scanOf (now (vertices .entry)) (now (indices .entry)) x y (λ t. t) (triangles (now (indices .entry))) ⌝ }
+{
+    let mut best = Best::Nothing;
+    for t in 0..indices.len() / 3 {
+        let Fetch::Corners(a, b, c) = corners(vertices, indices, t) else {
+            continue;
+        };
+        if far(a, b, c, x, y) {
+            continue;
+        }
+        let w = weigh(a, b, c, x, y);
+        if !w.inside() {
+            continue;
+        }
+        best = best.higher(w.height(a, b, c), t);
+    }
+    best
+}
+
+// The highest triangle over (x, y), of the lowest number among equals: its height, normal and number.
+pub fn height_at(
+    vertices: &[f32],
+    normals: &[f32],
+    indices: &[u32],
+    spans: &[u32],
+    x: f32,
+    y: f32,
+) -> Answer
+    ensures { λ r. ⌜ readAnswer r ≡ answerOf (meshLists (now (vertices .entry)) (now (normals .entry)) (now (indices .entry)) (now (spans .entry))) x y ⌝ }
+{
+    match mesh_fault(vertices, normals, indices, spans) {
+        Check::Faulty(refusal) => Answer::Refused(refusal),
+        Check::Fine => match highest_of_all(vertices, indices, x, y) {
+            Best::At(h, t) => Answer::Found(h, normal_of(vertices, normals, indices, t, x, y), t),
+            Best::Nothing => Answer::None,
+        },
+    }
+}

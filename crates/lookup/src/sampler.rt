@@ -1,0 +1,138 @@
+// The indexed lookup: the highest of the point's candidates, with the lane that its triangle belongs to.
+ghost use mathlib.Core.Path.{_≡_};
+ghost use Prim.Native.Nat.{_*_, _/_, _<_, _≤_};
+ghost use lib.Dec.{eqb};
+ghost use lib.ListN.{length};
+ghost use Rattle.shape.specs.Refusal.{found, numberOf};
+ghost use Rattle.shape.specs.Lists.{meshLists};
+ghost use Rattle.lookup.specs.Sampler.{EndsRise, pastOf, laneOf, topFault, readSampled, topOf};
+use crate::grid::Consulted;
+use crate::grid::at;
+use crate::grid::consult;
+use crate::mesh::Best;
+use crate::mesh::highest;
+use crate::mesh::normal_of;
+use shape::lists::mesh_fault;
+use shape::lists::record_word;
+use shape::refusal::Check;
+use shape::refusal::Refusal;
+use vector::coords::Vector;
+
+// A lane by its id, or that the spans name none.
+pub enum Lane {
+    Id(usize),
+    None,
+}
+
+// What the indexed lookup answers: height, normal, triangle and lane, or none, or why the call is
+// turned back.
+pub enum Sampled {
+    Found(f32, Vector, usize, Lane),
+    None,
+    Refused(Refusal),
+}
+
+// The first of n spans whose run of indices ends past i, or n. The ends rise, so it is found by halving.
+fn span_past(spans: &[u32], i: usize, n: usize) -> usize
+    requires { ⌜ n ≤ 1024 ⌝ }
+    requires { ⌜ EndsRise (now spans) n ⌝ }
+    ensures { λ r. ⌜ r ≡ pastOf (now (spans .entry)) i n ⌝ }
+{
+    let mut low = 0;
+    let mut high = n;
+    while low < high {
+        let middle = (low + high) / 2;
+        let end = record_word(spans, 5, middle, 4);
+        if end <= i {
+            low = middle + 1;
+        } else {
+            high = middle;
+        }
+    }
+    low
+}
+
+// The lane that triangle t belongs to.
+fn lane_of(spans: &[u32], t: usize) -> Lane
+    requires { ⌜ t < 65536 ⌝ }
+    requires { ⌜ length (now spans) ≤ 5120 ⌝ }
+    requires { ⌜ EndsRise (now spans) (length (now spans) / 5) ⌝ }
+    ensures { λ r. ⌜ r ≡ laneOf (now (spans .entry)) t ⌝ }
+{
+    let i = 3 * t;
+    let n = spans.len() / 5;
+    let k = span_past(spans, i, n);
+    if k < n {
+        let start = record_word(spans, 5, k, 3);
+        if start <= i {
+            return Lane::Id(record_word(spans, 5, k, 0));
+        }
+    }
+    Lane::None
+}
+
+// Is a list past its limit?
+fn oversize(r: Refusal) -> bool
+    ensures { λ b. ⌜ b ≡ eqb (numberOf r) 1 ⌝ }
+{
+    match r {
+        Refusal::Oversize(limit) => true,
+        Refusal::Ragged(list) => false,
+        Refusal::ShortOutput(wanted) => false,
+        Refusal::ForeignIndex(word) => false,
+        Refusal::BadRecord(record) => false,
+    }
+}
+
+// Why the five lists are turned back, if they are: the index's limit comes after the mesh's and before
+// what is ragged.
+fn top_fault(
+    vertices: &[f32],
+    normals: &[f32],
+    indices: &[u32],
+    spans: &[u32],
+    index: &[u32],
+) -> Check
+    ensures { λ r. ⌜ found r ≡ topFault (meshLists (now (vertices .entry)) (now (normals .entry)) (now (indices .entry)) (now (spans .entry))) (now (index .entry)) ⌝ }
+{
+    let check = mesh_fault(vertices, normals, indices, spans);
+    if index.len() <= 4194304 {
+        return check;
+    }
+    if let Check::Faulty(r) = check {
+        if oversize(r) {
+            return Check::Faulty(r);
+        }
+    }
+    Check::Faulty(Refusal::Oversize(4194304))
+}
+
+// The highest of the point's candidates, of the lowest number among equals: its height, normal, number
+// and lane.
+pub fn top(
+    vertices: &[f32],
+    normals: &[f32],
+    indices: &[u32],
+    spans: &[u32],
+    index: &[u32],
+    x: f32,
+    y: f32,
+) -> Sampled
+    ensures { λ r. ⌜ readSampled r ≡ topOf (meshLists (now (vertices .entry)) (now (normals .entry)) (now (indices .entry)) (now (spans .entry))) (now (index .entry)) x y ⌝ }
+{
+    let check = top_fault(vertices, normals, indices, spans, index);
+    if let Check::Faulty(r) = check {
+        return Sampled::Refused(r);
+    }
+    match consult(index, indices.len() / 3, x, y) {
+        Consulted::Refused(r) => Sampled::Refused(r),
+        Consulted::Nowhere => Sampled::None,
+        Consulted::Run(a, e) => match highest(vertices, indices, at(index, a, e), x, y) {
+            Best::At(h, t) => {
+                let normal = normal_of(vertices, normals, indices, t, x, y);
+                Sampled::Found(h, normal, t, lane_of(spans, t))
+            }
+            Best::Nothing => Sampled::None,
+        },
+    }
+}

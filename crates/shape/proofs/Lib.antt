@@ -1,0 +1,8 @@
+-- Laws that the proofs of several functions cite.
+pub mod Heights
+pub mod Squares
+pub mod Surveys
+pub mod Strips
+pub mod Meshing
+pub mod Joining
+pub mod Reaching

@@ -1,0 +1,84 @@
+-- `shape::elevation::quick` meets its contract: so far every row was in order, or the pass stops. Assumes nothing.
+use mathlib.Core.Path.{_≡_}
+use Prim.Native.Nat.{_≤_, _-_}
+use native.Mathlib.Omega.{arith}
+use borrow.Author.Tests.{not-true, not-false}
+use borrow.Author.Needs.{needs}
+use denote.Ref.{now}
+use Rattle.shape.specs.Elevation.{rowCount}
+use Rattle.shape.proofs.Surveys.{Seen, seen-start, seen-next, odd-left, odd-right, seen-all, seen-odd}
+use Rattle.shape.proofs.elevation.quick.Statement.{statement}
+use Rattle.shape.proofs.elevation.quick.Tie as tie
+
+abbrev Inv-loop : tie.InvT-loop
+Inv-loop rows left right m most₀ last-left₀ last-right₀ k₀ most last-left last-right k = Seen rows left right most last-left last-right k × (k ≤ m)
+
+abbrev μ-loop : tie.MeasureT-loop
+μ-loop rows left right m most₀ last-left₀ last-right₀ k₀ most last-left last-right k = m - k
+
+loop-holds : tie.Need-loop-holds Inv-loop μ-loop
+loop-holds c = (seen-start (now (c .before .args .rows)) (c .before .args .left) (c .before .args .right), omega arith)
+
+row-requires : tie.Need-row-requires Inv-loop μ-loop
+row-requires c κs = omega arith
+
+in-order-requires : tie.Need-in-order-requires Inv-loop μ-loop
+in-order-requires c κs = search needs
+
+returns : tie.Need-returns Inv-loop μ-loop
+returns c = seen-odd (now (c .before .before .before .before .before .before .before .before .args .rows)) (c .before .before .before .before .before .before .before .before .args .left) (c .before .before .before .before .before .before .before .before .args .right) (odd-left (now (c .before .before .before .before .before .before .before .before .args .rows)) (c .before .before .before .before .before .before .before .before .args .left) (c .before .before .before .before .before .before .before .before .args .right) (c .before .before .before .before .before .before .loop .inv .0) (c .before .before .before .before .row .ensures .0) (rowCount (now (c .before .before .before .before .before .before .before .before .args .rows))) (omega (arith, c .before .before .before .before .before .before .before .before .pre, c .before .before .before .before .before .loop-test)) (c .before .in-order .ensures) (not-true (c .before .in-order .result) (c .if1 .taken)))
+
+in-order-requires-2 : tie.Need-in-order-requires-2 Inv-loop μ-loop
+in-order-requires-2 c κs = search needs
+
+returns-2 : tie.Need-returns-2 Inv-loop μ-loop
+returns-2 c = seen-odd (now (c .before .before .before .before .before .before .before .before .before .before .args .rows)) (c .before .before .before .before .before .before .before .before .before .before .args .left) (c .before .before .before .before .before .before .before .before .before .before .args .right) (odd-right (now (c .before .before .before .before .before .before .before .before .before .before .args .rows)) (c .before .before .before .before .before .before .before .before .before .before .args .left) (c .before .before .before .before .before .before .before .before .before .before .args .right) (c .before .before .before .before .before .before .before .before .loop .inv .0) (c .before .before .before .before .before .before .row .ensures .0) (rowCount (now (c .before .before .before .before .before .before .before .before .before .before .args .rows))) (omega (arith, c .before .before .before .before .before .before .before .before .before .before .pre, c .before .before .before .before .before .before .before .loop-test)) (c .before .in-order2 .ensures) (not-true (c .before .in-order2 .result) (c .if2 .taken)))
+
+span-requires : tie.Need-span-requires Inv-loop μ-loop
+span-requires c κs = search needs
+
+larger-requires : tie.Need-larger-requires Inv-loop μ-loop
+larger-requires c κs = search needs
+
+span-requires-2 : tie.Need-span-requires-2 Inv-loop μ-loop
+span-requires-2 c κs = search needs
+
+larger-requires-2 : tie.Need-larger-requires-2 Inv-loop μ-loop
+larger-requires-2 c κs = search needs
+
+add-k : tie.Need-add-k Inv-loop μ-loop
+add-k c = omega arith
+
+loop-less : tie.Need-loop-less Inv-loop μ-loop
+loop-less c = omega arith
+
+loop-again : tie.Need-loop-again Inv-loop μ-loop
+loop-again c = (
+  seen-next (now (c .before .before .before .before .before .before .before .before .before .before .before .before .before .before .args .rows)) (c .before .before .before .before .before .before .before .before .before .before .before .before .before .before .args .left) (c .before .before .before .before .before .before .before .before .before .before .before .before .before .before .args .right) (c .before .before .before .before .before .before .before .before .before .before .before .before .loop .inv .0) (c .before .before .before .before .before .before .before .before .before .before .row .ensures .0) (c .before .before .before .before .before .before .before .in-order .ensures) (not-false (c .before .before .before .before .before .before .before .in-order .result) (c .before .before .before .before .before .before .if1 .left)) (c .before .before .before .before .before .in-order2 .ensures) (not-false (c .before .before .before .before .before .in-order2 .result) (c .before .before .before .before .if2 .left))
+      (rw (c .larger2 .ensures, c .before .span2 .ensures, c .before .before .larger .ensures, c .before .before .before .span .ensures)),
+  omega arith,
+)
+
+returns-3 : tie.Need-returns-3 Inv-loop μ-loop
+returns-3 c = let e : c .before .loop .k ≡ rowCount (now (c .before .before .before .args .rows)) = omega (arith, c .before .loop .inv .1, c .before .before .before .pre) in seen-all (now (c .before .before .before .args .rows)) (c .before .before .before .args .left) (c .before .before .before .args .right) (rw e at (c .before .loop .inv .0))
+
+pub quick-spec : {M : Type 1} → statement M
+quick-spec =
+    tie.close
+    (tie.spec
+    Inv-loop
+    μ-loop
+    loop-holds
+    row-requires
+    in-order-requires
+    returns
+    in-order-requires-2
+    returns-2
+    span-requires
+    larger-requires
+    span-requires-2
+    larger-requires-2
+    add-k
+    loop-less
+    loop-again
+    returns-3)

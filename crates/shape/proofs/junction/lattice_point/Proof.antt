@@ -1,0 +1,51 @@
+-- `shape::junction::lattice_point` meets its contract. Assumes nothing.
+use Rattle.shape.specs.JunctionMesh.{lattice}
+use borrow.Author.Needs.{needs}
+use Rattle.shape.proofs.junction.lattice_point.Statement.{statement}
+use Rattle.shape.proofs.junction.lattice_point.Tie as tie
+
+single-requires : tie.Need-single-requires
+single-requires c κs = search needs
+
+single-requires-2 : tie.Need-single-requires-2
+single-requires-2 c κs = search needs
+
+single-requires-3 : tie.Need-single-requires-3
+single-requires-3 c κs = search needs
+
+sub-requires : tie.Need-sub-requires
+sub-requires c κs = search needs
+
+mul-requires : tie.Need-mul-requires
+mul-requires c κs = search needs
+
+add-requires : tie.Need-add-requires
+add-requires c κs = search needs
+
+sub-requires-2 : tie.Need-sub-requires-2
+sub-requires-2 c κs = search needs
+
+mul-requires-2 : tie.Need-mul-requires-2
+mul-requires-2 c κs = search needs
+
+add-requires-2 : tie.Need-add-requires-2
+add-requires-2 c κs = search needs
+
+returns : tie.Need-returns
+unfolding lattice
+returns c = rw (c .add2 .ensures, c .before .mul2 .ensures, c .before .before .sub2 .ensures, c .before .before .before .add .ensures, c .before .before .before .before .mul .ensures, c .before .before .before .before .before .sub .ensures, c .before .before .before .before .before .before .single3 .ensures, c .before .before .before .before .before .before .before .single2 .ensures, c .before .before .before .before .before .before .before .before .single .ensures)
+
+pub lattice-point-spec : {M : Type 1} → statement M
+lattice-point-spec =
+    tie.close
+    (tie.spec
+    single-requires
+    single-requires-2
+    single-requires-3
+    sub-requires
+    mul-requires
+    add-requires
+    sub-requires-2
+    mul-requires-2
+    add-requires-2
+    returns)
