@@ -1,12 +1,24 @@
--- Document 01, "Words of demand 3": what it is for an index to be built from a mesh, and for a mesh to come from lanes. Definitions only. Assumes nothing.
+-- Document 01, "Words of demand 3": what it is for an index to be built from a mesh and for a triangle to be in a lane's strip, and the demand itself.
+-- Definitions only. Assumes nothing.
 use Prim.Native.Nat.{ℕ, _+_, _*_, _≤_, _<_}
 use mathlib.Core.Path.{_≡_}
+use mathlib.Core.Bool.{true}
 use mathlib.Core.List.{List}
+use mathlib.Core.Logic.{_↔_}
+use lib.Dec.{T}
 use lib.ListN.{length, take}
+use lib.Ieee.{Float, le}
+use Rattle.vector.specs.declared.coords.Vector.{Vector}
 use Rattle.shape.specs.Lists.{Mesh, wordOf}
-use Rattle.shape.specs.Refusal.{taken, leaves}
-use Rattle.shape.specs.SurfaceMesh.{Given, lanesOf, indexOf}
+use Rattle.shape.specs.Refusal.{taken, refused, leaves}
+use Rattle.shape.specs.SurfaceMesh.{Given, lanesOf, indexOf, meshOf}
+use Rattle.lookup.specs.declared.sampler.Lane.{Lane}
+use Rattle.lookup.specs.declared.sampler.Lane.the-variants.{Id}
+use Rattle.lookup.specs.Box.{inBox}
+use Rattle.lookup.specs.Plain.{Lookup, gives, none, answerOf}
+use Rattle.lookup.specs.Winner.{Uncovered, height, normal, Wins, NoNan, Right}
 use Rattle.lookup.specs.Index.{indexWords, buildOf}
+use Rattle.lookup.specs.Sampler.{laneOf, Sample, hit, miss, lookupIn, topOf}
 
 -- "an index built from a mesh is the words that a taken building call left": in memory that held `before`, the call left `size` words at the front, and ws is
 -- what stands there now, those words at least
@@ -27,3 +39,32 @@ pub record InStrip (g : Given) (t k : ℕ) : Type 0 where
 -- a lane's id
 abbrev pub idOf : Given → ℕ → ℕ
 idOf g k = wordOf 10 (g .lanes) k 0
+
+-- a lane is the one whose strip holds triangle t
+pub record NamesLane (g : Given) (t : ℕ) (l : Lane) : Type 0 where
+  pub of : ℕ
+  pub in-strip : InStrip g t of
+  pub named : l ≡ Id (idOf g of)
+
+-- ---- the demand, over a mesh, words and a point
+
+pub record Demand3 (m : Mesh) (ws : List ℕ) (x y : Float) : Type 0 where
+  -- the plain lookup gives the winner with its height and its normal, where no covering height is a NaN
+  pub plain : NoNan m x y → (l : Lookup) → answerOf m x y ≡ taken l → Right m x y l
+  -- and none exactly where no triangle covers the point, NaN or not
+  pub plain-none : (l : Lookup) → answerOf m x y ≡ taken l → (l ≡ none) ↔ Uncovered m x y
+  -- the words are never foreign to the mesh
+  pub never-foreign : (place : ℕ) → topOf m ws x y ≡ refused 4 place → ⊥
+  -- nothing else turns a call back, either lookup's, while the words are within their limit
+  pub plain-taken : (number place : ℕ) → answerOf m x y ≡ refused number place → ⊥
+  pub indexed-taken : length ws ≤ 4194304 → (number place : ℕ) → topOf m ws x y ≡ refused number place → ⊥
+  -- the indexed lookup gives none where the plain one does
+  pub indexed-none : answerOf m x y ≡ taken none → (s : Sample) → topOf m ws x y ≡ taken s → s ≡ miss
+  -- it is never higher
+  pub never-higher : NoNan m x y → (h : Float) (n : Vector) (k : ℕ) → answerOf m x y ≡ taken (gives h n k)
+      → (h′ : Float) (n′ : Vector) (k′ : ℕ) (l : Lane) → topOf m ws x y ≡ taken (hit h′ n′ k′ l) → T (le h′ h)
+  -- where the winner's grown box holds the point it gives the winner, and both lookups the same
+  pub winner : NoNan m x y → (k : ℕ) → Wins m x y k → inBox (m .vertices) (m .indices) k x y ≡ true → (s : Sample) → topOf m ws x y ≡ taken s
+      → (s ≡ hit (height m x y k) (normal m x y k) k (laneOf (m .spans) k)) × (answerOf m x y ≡ taken (lookupIn s))
+  -- over a mesh that came from lanes it names the lane whose strip holds the triangle
+  pub lane : (g : Given) → m ≡ meshOf g → (h : Float) (n : Vector) (t : ℕ) (l : Lane) → topOf m ws x y ≡ taken (hit h n t l) → NamesLane g t l

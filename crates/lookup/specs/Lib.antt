@@ -13,3 +13,4 @@ pub mod Sampler
 pub mod Demand3
 pub mod Laws
 pub mod Examples
+pub mod SamplerExamples

@@ -2,9 +2,15 @@
 // from standard input, in 32-bit words, the low byte first: blocks of an operation's number, the number
 // of its cases, and for each case the count of its input words, these, the count of its answer words,
 // and these. A line for each block says how many cases differ, and the last line for all.
+mod grid_ops;
+mod junction_ops;
+mod lent;
+mod mesh_ops;
 mod names;
 mod numbers;
+mod outline_ops;
 mod rounding_ops;
+mod shape_ops;
 mod stream;
 mod text;
 mod vector_ops;
@@ -98,7 +104,7 @@ fn work(op: u32, given: &[u32], size: usize, made: &mut [u32]) -> usize {
     if size == vector_ops::takes(op) {
         return vector_ops::work(op, given, made);
     }
-    0
+    shape_ops::work(op, given, made)
 }
 
 // Works one case. Where there is no answer, that is a difference.

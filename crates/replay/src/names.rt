@@ -86,13 +86,30 @@ fn vector_check_name(k: u32) {
     );
 }
 
+// The operations of the shape layer that the oracle has.
+fn shape_name(k: u32) {
+    if k < 6 {
+        word_of(
+            b"no_area patch slopes elevation_height elevation_height_at signed_area",
+            k,
+        );
+        return;
+    }
+    word_of(b"ring ear_clip junction_mesh surface_mesh validate", k - 6);
+}
+
 // Writes the name of an operation.
 pub fn name(op: u32) {
     match op {
         0..=19 => rounding_name(op),
         20..=26 => vector_name(op - 20),
+        27..=37 => shape_name(op - 27),
         100..=112 => check_name(op - 100),
         200..=214 => vector_check_name(op - 200),
+        327..=337 => {
+            shape_name(op - 327);
+            io::write_all(STDOUT_FILENO, b" at its limits");
+        }
         _ => {
             io::write_all(STDOUT_FILENO, b"unknown operation");
         }

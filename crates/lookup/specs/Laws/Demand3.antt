@@ -18,28 +18,22 @@ use Rattle.shape.specs.Refusal.{Fault, fine, fault, refuse, Answer, taken, refu
 use Rattle.lookup.specs.declared.mesh.Best.{Best}
 use Rattle.lookup.specs.declared.mesh.Best.the-variants.{At, Nothing}
 use Rattle.lookup.specs.declared.sampler.Lane.{Lane}
-use Rattle.lookup.specs.declared.sampler.Lane.the-variants.{Id}
 use Rattle.lookup.specs.Mesh.{triangles}
 use Rattle.lookup.specs.Box.{inBox}
-use Rattle.lookup.specs.Plain.{entryOf, gives, none, answerOf}
+use Rattle.lookup.specs.Plain.{entryOf, gives, none, plainOf, answerOf}
 use Rattle.lookup.specs.Winner.{Covers, height, normal, Wins, NoNan}
 use Rattle.lookup.specs.Index.{indexWords, buildOf, answerTo, candidatesOf}
 use Rattle.lookup.specs.Consult.{Place, runIn, consultOf}
 use Rattle.lookup.specs.Sampler.{laneOf, Sample, hit, miss, lookupIn, sampleOf, sampleIn, onward, topFault, topOf}
-use Rattle.lookup.specs.Demand3.{BuiltFrom, InStrip, idOf}
+use Rattle.lookup.specs.Demand3.{BuiltFrom, NamesLane, Demand3}
 use Rattle.lookup.specs.Laws.Heads.{passed}
 use Rattle.lookup.specs.Laws.Plain.{bestOf, covers-below, answer-right, answer-none, plain-winner, run-none, run-never-higher, run-winner}
 use Rattle.lookup.specs.Laws.Scan.{scan-found}
 use Rattle.lookup.specs.Laws.Lanes.{strip-of, strip-lane}
 use Rattle.lookup.specs.Laws.Index.{Hands, hands, candidates-rise, candidate}
-use Rattle.lookup.specs.Laws.Limits.{input-not-foreign, short-index}
+use Rattle.lookup.specs.Laws.Limits.{judged, input-not-foreign, short-index}
 
 -- ---- what a taken building call leaves
-
-judged : {A : Type 0} (f : Fault) (a : Answer A) (s : A) → judge f a ≡ taken s → (f ≡ fine) × (a ≡ taken s)
-unfolding judge
-judged fine a s e = (refl, e)
-judged (fault number place) a s e = let z : _≡_ {A = ℕ} 0 1 = cc in absurd (omega arith)
 
 one-taken : {A : Type 0} (a b : A) → taken a ≡ taken b → a ≡ b
 one-taken a b e = cc
@@ -130,11 +124,6 @@ module _ (m : Mesh) (ws : List ℕ) (x y : Float) (h : Float) (n : Vector) (t : 
 
 -- ---- the lane: over a mesh that came from lanes, a hit names the lane whose strip holds the triangle
 
-pub record NamesLane (g : Given) (t : ℕ) (l : Lane) : Type 0 where
-  pub of : ℕ
-  pub in-strip : InStrip g t of
-  pub named : l ≡ Id (idOf g of)
-
 pub lane-named : (g : Given) (ws : List ℕ) (x y : Float) (h : Float) (n : Vector) (t : ℕ) (l : Lane)
     → topOf (meshOf g) ws x y ≡ taken (hit h n t l) → NamesLane g t l
 lane-named g ws x y h n t l e =
@@ -217,3 +206,26 @@ module _ (m : Mesh) (ws : List ℕ) (b : BuiltFrom m ws) (x y : Float) where
   unfolding lookupIn answerOf judge
   same-answer nn k w i s e =
       rw (winner-in-box nn k w i s e, mesh-fine m (length (b .before)) (b .size) (b .took)) (ap taken (plain-winner m x y nn k w))
+
+-- ---- the demand
+
+not-both : {A : Type 0} {a : A} {number place : ℕ} {r : Answer A} → r ≡ taken a → r ≡ refused number place → ⊥
+not-both p q = let z : _≡_ {A = ℕ} 0 1 = cc in omega arith
+
+plain-taken : (m : Mesh) (ws : List ℕ) → BuiltFrom m ws → (x y : Float) (number place : ℕ) → answerOf m x y ≡ refused number place → ⊥
+unfolding answerOf judge
+plain-taken m ws b x y number place e = not-both {a = plainOf m x y} (rw (mesh-fine m (length (b .before)) (b .size) (b .took))) e
+
+pub demand3 : (m : Mesh) (ws : List ℕ) → BuiltFrom m ws → (x y : Float) → Demand3 m ws x y
+demand3 m ws b x y =
+    record {
+      plain = answer-right m x y;
+      plain-none = answer-none m x y;
+      never-foreign = never-foreign m ws b x y;
+      plain-taken = plain-taken m ws b x y;
+      indexed-taken = λ l number place e. not-both (top-taken m ws b x y l) e;
+      indexed-none = none-where-none m ws b x y;
+      never-higher = never-higher m ws b x y;
+      winner = λ nn k w i s e. (winner-in-box m ws b x y nn k w i s e, same-answer m ws b x y nn k w i s e);
+      lane = λ g q h n t l e. lane-named g ws x y h n t l (subst (λ (o : Mesh). topOf o ws x y ≡ taken (hit h n t l)) q e);
+    }

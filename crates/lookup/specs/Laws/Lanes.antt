@@ -1,20 +1,28 @@
--- Demand 3, the lane: over a mesh that came from lanes, the lane named for a triangle is the one whose strip holds it. Assumes nothing.
-use Prim.Native.Nat.{ℕ, zero, suc, _+_, _*_, _/_, _≤_, _<_}
+-- Demand 3, the lane: over a mesh that came from lanes, the lane named for a triangle is the one whose strip holds it; every triangle is in one strip; and such
+-- a mesh is in order. Assumes nothing.
+use Prim.Native.Nat.{ℕ, zero, suc, _+_, _*_, _/_, _%_, _≤_, _<_, zero-le}
 use mathlib.Core.Path.{_≡_, refl, sym, ap, _∙_}
+use mathlib.Core.Bool.{Bool, false}
 use mathlib.Core.List.{List, [], _∷_}
 use native.Mathlib.Omega.{arith}
 use native.Mathlib.Decide.{decLt}
 use lib.ListN.{length, getD}
-use Rattle.shape.specs.Gather.{gather}
-use Rattle.shape.specs.Lists.{wordOf, startOf, endOf}
-use Rattle.shape.specs.Strip.{kept}
-use Rattle.shape.specs.SurfaceMesh.{Given, lanesOf, laneAt, laneIndices, laneSpan, spanOf, baseOf, indexOf, meshOf}
-use Rattle.shape.specs.Laws.Gather.{gather-fits, gather-at, gather-owner, Multiple, gather-multiple}
-use Rattle.shape.specs.Laws.SurfaceMesh.{index-next, index-owner, owner-ribs}
+use lib.Dec.{ltb}
+use borrow.Author.Tests.{le-ltb, ltb-false}
+use Rattle.shape.specs.Gather.{gather, any}
+use Rattle.shape.specs.Lists.{wordOf, startOf, endOf, lastEnd, runBad, longer, uneven, meshFault}
+use Rattle.shape.specs.declared.mesh.MeshCounts.{MeshCounts}
+use Rattle.shape.specs.Refusal.{fine, refuse, taken}
+use Rattle.shape.specs.Strip.{kept, sixOf, verticesAt, verticesOf}
+use Rattle.shape.specs.SurfaceMesh.{Given, lanesOf, laneAt, laneVertices, laneIndices, laneSpan, spanOf, baseOf, indexOf, meshOf, inputFault, resultFault, countsOf, resultOf, answerOf}
+use Rattle.shape.specs.Laws.Gather.{gather-fits, gather-at, gather-even, gather-owner, Multiple, gather-multiple}
+use Rattle.shape.specs.Laws.SurfaceMesh.{base-next, index-next, index-owner, owner-ribs, normals-match}
 use Rattle.lookup.specs.declared.sampler.Lane.the-variants.{Id}
 use Rattle.lookup.specs.Mesh.{triangles}
 use Rattle.lookup.specs.Sampler.{pastOf, laneOf}
 use Rattle.lookup.specs.Demand3.{InStrip, idOf}
+use Rattle.lookup.specs.Laws.Heads.{passed}
+use Rattle.lookup.specs.Laws.Limits.{judged}
 use Rattle.lookup.specs.Laws.Spans.{past-is, lane-id}
 
 -- a span is of five words or of none
@@ -32,6 +40,11 @@ span-ribs : (m id v v′ i i′ : ℕ) → 0 < length (spanOf m id v v′ i i′
 unfolding spanOf
 span-ribs zero id v v′ i i′ h z = omega arith
 span-ribs (suc m) id v v′ i i′ h z = omega arith
+
+any-false : (f : ℕ → Bool) (n : ℕ) → ((k : ℕ) → k < n → f k ≡ false) → any f n ≡ false
+unfolding any
+any-false f zero h = refl
+any-false f (suc n) h = simp (any-false f n (λ k l. h k (omega arith)), h n (omega arith))
 
 module _ (g : Given) where
   -- how many spans there are before lane k's
@@ -60,15 +73,26 @@ module _ (g : Given) where
   unfolding laneSpan
   has-ribs k h = span-ribs (length (kept (laneAt g k))) _ _ _ _ _ h
 
+  -- span j, of those of the lanes before k, is that of a lane with ribs
+  record Spanned (k j : ℕ) : Type 0 where
+    by : ℕ
+    below-k : by < k
+    ribbed : length (kept (laneAt g by)) ≡ 0 → ⊥
+    place : j ≡ spansBefore by
+
+  spanned : (k j : ℕ) → j < spansBefore k → Spanned k j
+  spanned k j h =
+      let o = gather-owner (laneSpan g) k (5 * j + 4) (omega (arith, fives k)) in
+      let r = has-ribs (o .owner) (omega (arith, o .from, o .to)) in
+      record { by = o .owner; below-k = o .below-n; ribbed = r; place = omega (arith, o .from, o .to, fives (o .owner), with-ribs (o .owner) r) }
+
   -- the spans of the lanes before k end at k's first index or before
   ends-before : (k j : ℕ) → k ≤ lanesOf g → j < spansBefore k → endOf 5 3 (meshOf g .spans) j ≤ indexOf g k
   ends-before k j l h =
-      let o = gather-owner (laneSpan g) k (5 * j + 4) (omega (arith, fives k)) in
-      let i = o .owner in
-      let r = has-ribs i (omega (arith, o .from, o .to)) in
-      let e : j ≡ spansBefore i = omega (arith, o .from, o .to, fives i, with-ribs i r) in
-      let w : endOf 5 3 (meshOf g .spans) j ≡ indexOf g (i + 1) = ap (endOf 5 3 (meshOf g .spans)) e ∙ span-is i 4 (omega (arith, o .below-n)) r (omega arith) in
-      omega (arith, w, index-next g i, gather-fits (laneIndices g) i k (o .below-n))
+      let o = spanned k j h in
+      let i = o .by in
+      let w : endOf 5 3 (meshOf g .spans) j ≡ indexOf g (i + 1) = ap (endOf 5 3 (meshOf g .spans)) (o .place) ∙ span-is i 4 (omega (arith, o .below-k)) (o .ribbed) (omega arith) in
+      omega (arith, w, index-next g i, gather-fits (laneIndices g) i k (o .below-k))
 
   module _ (t k : ℕ) (s : InStrip g t k) where
     ribs : length (kept (laneAt g k)) ≡ 0 → ⊥
@@ -112,3 +136,98 @@ module _ (g : Given) where
       go (yes a) d = absurd (later-lane t j k a p q)
       go (no a) (yes d) = absurd (later-lane t k j d q p)
       go (no a) (no d) = omega arith
+
+  -- ---- such a mesh is in order
+
+  -- the runs of the spans, from f of a lane up to f of the next, where f rises up to n
+  module _
+      (f : ℕ → ℕ)
+      (a n : ℕ)
+      (rises : (i k : ℕ) → i < k → f (i + 1) ≤ f k)
+      (goes : (i : ℕ) → f i ≤ f (i + 1))
+      (ends : f (lanesOf g) ≤ n)
+      (from-is : (i : ℕ) → i < lanesOf g → (length (kept (laneAt g i)) ≡ 0 → ⊥) → startOf 5 a (meshOf g .spans) (spansBefore i) ≡ f i)
+      (to-is : (i : ℕ) → i < lanesOf g → (length (kept (laneAt g i)) ≡ 0 → ⊥) → endOf 5 a (meshOf g .spans) (spansBefore i) ≡ f (i + 1))
+    where
+      last-before : (j i : ℕ) → i < lanesOf g → j ≡ spansBefore i → lastEnd 5 a (meshOf g .spans) j ≤ f i
+      unfolding lastEnd
+      last-before zero i l e = zero-le
+      last-before (suc j) i l e =
+          let o = spanned i j (omega arith) in
+          let w : endOf 5 a (meshOf g .spans) j ≡ f (o .by + 1) = ap (endOf 5 a (meshOf g .spans)) (o .place) ∙ to-is (o .by) (omega (arith, o .below-k)) (o .ribbed) in
+          omega (arith, w, rises (o .by) i (o .below-k))
+
+      not-bad : (j : ℕ) → j < spansBefore (lanesOf g) → runBad 5 a (meshOf g .spans) n j ≡ false
+      unfolding runBad
+      not-bad j h =
+          let o = spanned (lanesOf g) j h in
+          let s : startOf 5 a (meshOf g .spans) j ≡ f (o .by) = ap (startOf 5 a (meshOf g .spans)) (o .place) ∙ from-is (o .by) (o .below-k) (o .ribbed) in
+          let e : endOf 5 a (meshOf g .spans) j ≡ f (o .by + 1) = ap (endOf 5 a (meshOf g .spans)) (o .place) ∙ to-is (o .by) (o .below-k) (o .ribbed) in
+          simp (
+            le-ltb (endOf 5 a (meshOf g .spans) j) (startOf 5 a (meshOf g .spans) j) (omega (arith, s, e, goes (o .by))),
+            le-ltb (startOf 5 a (meshOf g .spans) j) (lastEnd 5 a (meshOf g .spans) j) (omega (arith, s, last-before j (o .by) (o .below-k) (o .place))),
+            le-ltb n (endOf 5 a (meshOf g .spans) j) (omega (arith, e, rises (o .by) (lanesOf g) (o .below-k))),
+          )
+
+      none-bad : any (runBad 5 a (meshOf g .spans) n) (length (meshOf g .spans) / 5) ≡ false
+      unfolding meshOf spansBefore
+      none-bad = any-false (runBad 5 a (meshOf g .spans) n) (length (meshOf g .spans) / 5) not-bad
+
+  vertex-runs : any (runBad 5 1 (meshOf g .spans) (length (meshOf g .vertices) / 3)) (length (meshOf g .spans) / 5) ≡ false
+  unfolding meshOf
+  vertex-runs =
+      none-bad (baseOf g) 1 (length (meshOf g .vertices) / 3)
+      (λ i k l. omega (arith, base-next g i, gather-fits (laneVertices g) i k l))
+      (λ i. omega (arith, base-next g i))
+      (omega arith)
+      (λ i l r. span-is i 1 l r (omega arith))
+      (λ i l r. span-is i 2 l r (omega arith))
+
+  index-runs : any (runBad 5 3 (meshOf g .spans) (length (meshOf g .indices))) (length (meshOf g .spans) / 5) ≡ false
+  unfolding meshOf
+  index-runs =
+      none-bad (indexOf g) 3 (length (meshOf g .indices))
+      (λ i k l. omega (arith, index-next g i, gather-fits (laneIndices g) i k l))
+      (λ i. omega (arith, index-next g i))
+      (omega arith)
+      (λ i l r. span-is i 3 l r (omega arith))
+      (λ i l r. span-is i 4 l r (omega arith))
+
+  vertices-six : (k : ℕ) → length (laneVertices g k) ≡ 6 * length (kept (laneAt g k))
+  unfolding laneVertices verticesOf sixOf
+  vertices-six k = gather-even (verticesAt (laneAt g k) (kept (laneAt g k))) 6 (λ i. refl) (length (kept (laneAt g k)))
+
+  threes : length (meshOf g .vertices) % 3 ≡ 0
+  unfolding meshOf
+  threes = let m = gather-multiple (laneVertices g) 3 (λ i. record { times = 2 * length (kept (laneAt g i)); is = omega (arith, vertices-six i) }) (lanesOf g) in omega (arith, m .is)
+
+  spans-five : length (meshOf g .spans) % 5 ≡ 0
+  unfolding meshOf
+  spans-five = omega (arith, fives (lanesOf g))
+
+  -- what meshing writes within the limits, no lookup turns back
+  pub lanes-in-order : length (meshOf g .vertices) ≤ 196608 → length (meshOf g .indices) ≤ 196608 → length (meshOf g .spans) ≤ 5120 → meshFault (meshOf g) ≡ fine
+  unfolding meshFault longer uneven
+  lanes-in-order v i s =
+      simp (
+        le-ltb 196608 (length (meshOf g .vertices)) v,
+        normals-match g,
+        le-ltb 196608 (length (meshOf g .indices)) i,
+        le-ltb 5120 (length (meshOf g .spans)) s,
+        threes,
+        spans-five,
+        vertex-runs,
+        index-runs,
+      )
+
+  -- so is what a taken call of meshing wrote
+  pub written-in-order : (v n i s : ℕ) (c : MeshCounts) → answerOf g v n i s ≡ taken c → meshFault (meshOf g) ≡ fine
+  unfolding answerOf resultOf resultFault refuse
+  written-in-order v n i s c e =
+      let m = meshOf g in
+      let r = judged (inputFault g) (resultOf g v n i s) c e .1 in
+      let f = judged (resultFault (length (m .vertices)) (length (m .indices)) (length (m .spans)) v n i s) (taken (countsOf (length (m .vertices)) (length (m .indices)) (length (m .spans)))) c r .0 in
+      let a = passed (ltb (3 * 65536) (length (m .vertices))) _ _ _ f in
+      let b = passed (ltb 196608 (length (m .indices))) _ _ _ (a .1) in
+      let d = passed (ltb (5 * 1024) (length (m .spans))) _ _ _ (b .1) in
+      lanes-in-order (ltb-false 196608 _ (a .0)) (ltb-false 196608 _ (b .0)) (ltb-false 5120 _ (d .0))

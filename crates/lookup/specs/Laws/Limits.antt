@@ -9,17 +9,20 @@ use lib.ListN.{length}
 use borrow.Author.Tests.{lt-ltb, le-ltb, ltb-false}
 use Rattle.shape.specs.Gather.{any}
 use Rattle.shape.specs.Lists.{Mesh, longer, uneven, runBad, meshFault}
-use Rattle.shape.specs.Refusal.{Fault, fine, fault, refuse}
+use Rattle.shape.specs.Refusal.{Fault, fine, fault, refuse, Answer, taken, judge}
 use Rattle.lookup.specs.Sampler.{EndsRise, meshLimits, meshRagged, topFault}
 use Rattle.lookup.specs.Laws.Heads.{passed}
 use Rattle.lookup.specs.Laws.Spans.{ends-rise}
 
--- the four limits of a mesh, and its five tests of raggedness
+-- an answer that was taken: nothing was at fault
+pub judged : {A : Type 0} (f : Fault) (a : Answer A) (s : A) → judge f a ≡ taken s → (f ≡ fine) × (a ≡ taken s)
+unfolding judge
+judged fine a s e = (refl, e)
+judged (fault number place) a s e = let z : _≡_ {A = ℕ} 0 1 = cc in absurd (omega arith)
+
+-- the four limits of a mesh
 abbrev four : Bool → Bool → Bool → Bool → Fault → Fault
 four a b c d after = refuse a 1 65536 (refuse b 1 65536 (refuse c 1 196608 (refuse d 1 1024 after)))
-
-abbrev five : Bool → Bool → Bool → Bool → Bool → Fault
-five a b c d e = refuse a 2 0 (refuse b 2 1 (refuse c 2 3 (refuse d 2 3 (refuse e 2 3 fine))))
 
 -- a fault is not of a number that it does not have
 abbrev Not : ℕ → Fault → Type 0
