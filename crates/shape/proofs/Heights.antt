@@ -181,18 +181,6 @@ near-column v n h a b =
 
 -- ---- runs
 
-pub any-some : (f : ℕ → Bool) (i n : ℕ) → i < n → f i ≡ true → any f n ≡ true
-unfolding any
-any-some f i zero h e = absurd (omega arith)
-any-some f i (suc n) h e = elim (decLt i n) [
-  | yes p ↦ rw (any-some f i n p e)
-  | no p ↦ let d : n ≡ i = omega arith in rw (d, e) (last (any f i))
-]
-  where
-    last : (b : Bool) → (b || true) ≡ true
-    last true = refl
-    last false = refl
-
 pub longest-few : (a : ℕ) (rows : List ℕ) (m n : ℕ) → n ≤ m → any (runLong 6 a rows 1024) m ≡ false → longest a rows n ≤ 1024
 unfolding longest
 longest-few a rows m zero h e = omega arith

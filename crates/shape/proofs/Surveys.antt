@@ -10,13 +10,13 @@ use borrow.Author.Tests.{ltb-false, not-true, not-false}
 use lib.ListN.{length}
 use Rattle.shape.specs.Gather.{any}
 use Rattle.shape.specs.Lists.{longer, uneven, wordOf, lastEnd, runBad, runLong}
-use Rattle.shape.specs.Laws.Gather.{any-next, or-left, or-right}
+use Rattle.shape.specs.Laws.Gather.{any-next, any-some, or-left, or-right}
 use Rattle.shape.specs.Elevation.{rowOf, rowCount, longest, widestOf, gridLong, gridRagged, findingOf}
 use Rattle.shape.specs.ElevationSteps.{oddRun, oddRuns, passOf, faultOf, Limits}
 use Rattle.shape.specs.declared.elevation.GridRow.{GridRow}
 use Rattle.shape.specs.declared.elevation.Pass.the-variants.{Odd, Sound}
 use Rattle.shape.specs.declared.elevation.Finding.the-variants.{Long, Ragged, Widest}
-use Rattle.shape.proofs.Heights.{any-some, widest-few}
+use Rattle.shape.proofs.Heights.{widest-few}
 
 -- ---- a pass over the rows
 

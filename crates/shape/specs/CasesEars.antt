@@ -1,14 +1,13 @@
 -- The cases of document 01, "Junction triangles", that are marked [P] and are about ears: one list of tests over the definitions, all true.
 -- Assumes nothing.
 use mathlib.Core.Path.{_≡_, refl}
-use mathlib.Core.Bool.{Bool, true, false, _&&_}
+use mathlib.Core.Bool.{Bool, true}
 use mathlib.Core.List.{List, [], _∷_}
-use Prim.Native.Nat.{ℕ}
-use lib.Dec.{eqb}
 use lib.Ieee.{Float, ofBits, ofFields, odd, sub, mul, add, neg, le, lt, sum, round, units, span, climb, size}
 use Rattle.vector.specs.Single.{single, 0f}
-use Rattle.shape.specs.Gather.{gather, any}
+use Rattle.shape.specs.Gather.{gather, any, least}
 use Rattle.shape.specs.Lists.{pointAt}
+use Rattle.shape.specs.CaseTests.{same, all}
 use Rattle.shape.specs.Ears as ears
 use Rattle.shape.specs.Ears.{earsOf}
 
@@ -26,17 +25,6 @@ backwards = 0f ∷ 4f ∷ 0f ∷ 4f ∷ 4f ∷ 0f ∷ 4f ∷ 0f ∷ 0f ∷ 0f �
 abbrev two : List Float
 two = 0f ∷ 0f ∷ 0f ∷ 4f ∷ 0f ∷ 0f ∷ []
 
--- two lists of numbers are the same
-unfoldable pub same : List ℕ → List ℕ → Bool
-same [] [] = true
-same [] (y ∷ ys) = false
-same (x ∷ xs) [] = false
-same (x ∷ xs) (y ∷ ys) = eqb x y && same xs ys
-
-unfoldable pub all : List Bool → Bool
-all [] = true
-all (b ∷ bs) = b && all bs
-
 abbrev pub earCases : List Bool
 earCases =
     same (earsOf square) (3 ∷ 0 ∷ 1 ∷ 1 ∷ 2 ∷ 3 ∷ [])
@@ -45,5 +33,5 @@ earCases =
     ∷ []
 
 pub ear-cases : all earCases ≡ true
-unfolding ofBits ofFields odd sub mul add neg le lt sum round units span climb size gather any pointAt ears.cross ears.inside ears.turnsLeft ears.blocks ears.earOf ears.isEar ears.least ears.firstEar ears.earAt ears.without ears.lastEar ears.cutEars ears.upTo earsOf same all
+unfolding ofBits ofFields odd sub mul add neg le lt sum round units span climb size gather any pointAt ears.cross ears.inside ears.turnsLeft ears.blocks ears.earOf ears.isEar least ears.firstEar ears.earAt ears.without ears.lastEar ears.cutEars ears.upTo earsOf same all
 ear-cases = refl

@@ -11,6 +11,7 @@ use lib.IntN.{ℤ, pos, negsuc, sucℤ, predℤ}
 use lib.Ieee.{Float, binary64, add, sub, mul, div, neg, lt, le, eq, isNan, ofBits, ofInt, toBits, toSigned}
 use Rattle.rounding.specs.Whole.{wholeOf}
 use Rattle.rounding.specs.Extremes.{absOf}
+use Rattle.shape.specs.CaseTests.{all}
 use Rattle.shape.specs.Double.{double, 0d, 1d, _⊟_, _⧄_}
 use Rattle.shape.specs.Gather.{gather, any}
 use Rattle.shape.specs.Lists.{longer, uneven, wordOf, lastEnd, runBad, runLong}
@@ -37,10 +38,6 @@ refuses : Answer Spot → ℕ → ℕ → Bool
 refuses (taken a) number place = false
 refuses (refused n p) number place = eqb n number && eqb p place
 
-abbrev allTrue : List Bool → Bool
-allTrue [] = true
-allTrue (b ∷ bs) = b && allTrue bs
-
 -- ---- spacing 10, start 0, two rows of centre 0, left [10], right empty
 
 abbrev five : Float
@@ -58,18 +55,19 @@ rows = 0 ∷ 0 ∷ 0 ∷ 1 ∷ 0 ∷ 0 ∷ 0 ∷ 0 ∷ 1 ∷ 2 ∷ 0 ∷ 0 ∷ [
 asked : Float → Float → Answer Spot
 asked s t = heightAnswer grid rows (ten ∷ ten ∷ []) [] s t
 
--- (5, 5) gives 5; (10, 10) gives 10; (5, -5) none; (-0.000001, 5) gives 5; (-0.00002, 5) none
-pub cases : List Bool
-cases =
+-- (5, 5) gives 5; (10, 10) gives 10; (5, -5) none; (-0.000001, 5) gives 5; (-0.00002, 5) none; one row alone: none (for all points: `one-row` below)
+pub heightCases : List Bool
+heightCases =
     gives (asked five five) (At five)
     ∷ gives (asked ten ten) (At ten)
     ∷ gives (asked five (neg five)) Missing
     ∷ gives (asked (neg (double 0x3eb0_c6f7_a0b5_ed8d)) five) (At five)
-    ∷ gives (asked (neg (double 0x3ef4_f8b5_88e3_68f1)) five) Missing ∷ []
+    ∷ gives (asked (neg (double 0x3ef4_f8b5_88e3_68f1)) five) Missing
+    ∷ gives (heightAnswer grid (0 ∷ 0 ∷ 0 ∷ 1 ∷ 0 ∷ 0 ∷ []) (ten ∷ []) [] 0d five) Missing ∷ []
 
-pub cases-hold : allTrue cases ≡ true
-unfolding sameSpot gives grid rows asked cases nth rowOf columnOf valueOf lineOf straightOf slopesOf edgeOf firstOf secondOf frameOf entryOf mulOf transposeOf bicubic coefficientsOf powerOf sumTo surfaceOf withHeight squareOf inSquare orElse triedAt tried onGrid snapOf longest widestOf within coordsOf heightOf gridLong gridRagged gridFault heightAnswer gather any longer uneven wordOf lastEnd runBad runLong refuse judge wholeOf absOf add sub mul div neg lt le eq isNan ofBits ofInt toBits toSigned
-cases-hold = refl
+pub height-cases : all heightCases ≡ true
+unfolding sameSpot gives grid rows asked heightCases all nth rowOf columnOf valueOf lineOf straightOf slopesOf edgeOf firstOf secondOf frameOf entryOf mulOf transposeOf bicubic coefficientsOf powerOf sumTo surfaceOf withHeight squareOf inSquare orElse triedAt tried onGrid snapOf longest widestOf within coordsOf heightOf gridLong gridRagged gridFault heightAnswer gather any longer uneven wordOf lastEnd runBad runLong refuse judge wholeOf absOf add sub mul div neg lt le eq isNan ofBits ofInt toBits toSigned
+height-cases = refl
 
 -- ---- what is turned back: a part record, a run that ends before it starts, starts before the last one's end or ends past its list, and one past its limit,
 -- which comes before its being ragged
@@ -87,8 +85,8 @@ refusals =
     ∷ turns (0 ∷ 0 ∷ 0 ∷ 1025 ∷ 0 ∷ 0 ∷ []) 1 1024
     ∷ turns (0 ∷ 0 ∷ 1 ∷ 0 ∷ 0 ∷ 1025 ∷ 0 ∷ []) 1 1024 ∷ []
 
-pub refusals-hold : allTrue refusals ≡ true
-unfolding refuses grid turns refusals heightAnswer gridFault gridLong gridRagged any longer uneven wordOf lastEnd runBad runLong refuse judge
+pub refusals-hold : all refusals ≡ true
+unfolding all refuses grid turns refusals heightAnswer gridFault gridLong gridRagged any longer uneven wordOf lastEnd runBad runLong refuse judge
 refusals-hold = refl
 
 -- ---- "One row alone: always none."

@@ -1,33 +1,23 @@
 -- The case of document 01, "Lane strips", that is marked [P], as tests over the definitions. Assumes nothing.
 use mathlib.Core.Path.{_≡_, refl}
-use mathlib.Core.Bool.{Bool, true, false, _&&_}
-use mathlib.Core.List.{List, [], _∷_, map}
+use mathlib.Core.Bool.{Bool, true}
+use mathlib.Core.List.{List, [], _∷_}
 use Prim.Native.Nat.{ℕ}
-use lib.Dec.{eqb}
 use lib.Ieee as Ieee
-use lib.Ieee.{Float, binary32, toBits}
+use lib.Ieee.{Float}
 use lib.Count.{trailingZeros}
 use Rattle.rounding.specs.Root as Root
 use Rattle.rounding.specs.Extremes as Extremes
 use Rattle.vector.specs.Single.{single, 0f, 1f}
 use Rattle.vector.specs.Coords as Coords
 use Rattle.vector.specs.Geometry as Geometry
+use Rattle.shape.specs.CaseTests.{same, sameSingles, all}
 use Rattle.shape.specs.Gather as Gather
 use Rattle.shape.specs.Refusal as Refusal
 use Rattle.shape.specs.Lists as Lists
 use Rattle.shape.specs.Strip as Strip
 use Rattle.shape.specs.SurfaceMesh as SurfaceMesh
 use Rattle.shape.specs.declared.mesh.MeshCounts.{MeshCounts}
-
--- the same numbers; the same singles, by their bits
-abbrev same : List ℕ → List ℕ → Bool
-same [] [] = true
-same [] (y ∷ ys) = false
-same (x ∷ xs) [] = false
-same (x ∷ xs) (y ∷ ys) = eqb x y && same xs ys
-
-abbrev sameSingles : List Float → List Float → Bool
-sameSingles xs ys = same (map (toBits binary32) xs) (map (toBits binary32) ys)
 
 -- 2, -2, 10
 abbrev 2f : Float
@@ -55,8 +45,8 @@ abbrev numbers : Refusal.Answer MeshCounts → List ℕ
 numbers (Refusal.taken c) = c .vertices ∷ c .normals ∷ c .indices ∷ c .spans ∷ []
 numbers (Refusal.refused number place) = number ∷ place ∷ []
 
-abbrev pub strips : List Bool
-strips =
+abbrev pub stripCases : List Bool
+stripCases =
     sameSingles (SurfaceMesh.meshOf road .vertices) (0f ∷ 2f ∷ 0f ∷ 0f ∷ -2f ∷ 0f ∷ 10f ∷ 2f ∷ 0f ∷ 10f ∷ -2f ∷ 0f ∷ [])
     ∷ sameSingles (SurfaceMesh.meshOf road .normals) (0f ∷ 0f ∷ 1f ∷ 0f ∷ 0f ∷ 1f ∷ 0f ∷ 0f ∷ 1f ∷ 0f ∷ 0f ∷ 1f ∷ [])
     ∷ same (SurfaceMesh.meshOf road .indices) (0 ∷ 1 ∷ 3 ∷ 0 ∷ 3 ∷ 2 ∷ [])
@@ -65,10 +55,6 @@ strips =
     ∷ same (numbers (SurfaceMesh.answerOf road 11 12 6 5)) (3 ∷ 12 ∷ [])
     ∷ []
 
-abbrev all : List Bool → Bool
-all [] = true
-all (b ∷ bs) = b && all bs
-
-pub strips-hold : all strips ≡ true
-unfolding Ieee.ofBits Ieee.toBits Ieee.ofFields Ieee.odd Ieee.add Ieee.sub Ieee.mul Ieee.div Ieee.neg Ieee.lt Ieee.le Ieee.eq Ieee.sum Ieee.round Ieee.units Ieee.span Ieee.climb Ieee.size Ieee.isNan trailingZeros Root.rootIn Root.isqrt Root.rootOf Root.sqrtOf Extremes.first Extremes.minOf Extremes.maxOf Extremes.clampOf Extremes.absOf Coords.pointSub Coords.pointAdd Coords.pointSubVector Coords.vectorAdd Coords.vectorSub Coords.vectorMul Coords.vectorNeg Coords.dotOf Coords.crossOf Coords.lengthSquaredOf Coords.lengthOf Coords.distanceOf Coords.zeroVector Coords.upVector Coords.normalizeOr Coords.normalizeOrZero Coords.isZero Coords.turnedOf Coords.rotateAbout Coords.allFinite Coords.pointFinite Coords.vectorFinite Geometry.horizontalOf Geometry.leftNormalOf Gather.gather Gather.any Refusal.numberOf Refusal.placeOf Refusal.found Refusal.refuse Refusal.judge Refusal.leaves Lists.longer Lists.uneven Lists.pointAt Lists.vectorAt Lists.wordOf Lists.lastEnd Lists.runBad Lists.runLong Lists.runOf Lists.meshFault Strip.stepOf Strip.keeps Strip.weldNext Strip.welded Strip.lastOf Strip.keptOf Strip.kept Strip.keptPoint Strip.legOf Strip.noLeg Strip.legIn Strip.legOut Strip.alongOf Strip.gradeOf Strip.slopeOf Strip.lateralOf Strip.halfOf Strip.shorterOf Strip.eatOf Strip.pinches Strip.innerOf Strip.turnsLeft Strip.spreadOf Strip.ribAt Strip.walkAt Strip.sixOf Strip.upsOf Strip.noArea Strip.triangleOf Strip.segmentOf Strip.verticesOf Strip.normalsOf Strip.indicesOf SurfaceMesh.laneRun SurfaceMesh.laneAt SurfaceMesh.inputFault SurfaceMesh.laneVertices SurfaceMesh.laneNormals SurfaceMesh.laneIndices SurfaceMesh.spanOf SurfaceMesh.laneSpan SurfaceMesh.meshOf SurfaceMesh.resultFault SurfaceMesh.countsOf SurfaceMesh.readMesh SurfaceMesh.resultOf SurfaceMesh.answerOf
-strips-hold = refl
+pub strip-cases : all stripCases ≡ true
+unfolding same all Ieee.ofBits Ieee.toBits Ieee.ofFields Ieee.odd Ieee.add Ieee.sub Ieee.mul Ieee.div Ieee.neg Ieee.lt Ieee.le Ieee.eq Ieee.sum Ieee.round Ieee.units Ieee.span Ieee.climb Ieee.size Ieee.isNan trailingZeros Root.rootIn Root.isqrt Root.rootOf Root.sqrtOf Extremes.first Extremes.minOf Extremes.maxOf Extremes.clampOf Extremes.absOf Coords.pointSub Coords.pointAdd Coords.pointSubVector Coords.vectorAdd Coords.vectorSub Coords.vectorMul Coords.vectorNeg Coords.dotOf Coords.crossOf Coords.lengthSquaredOf Coords.lengthOf Coords.distanceOf Coords.zeroVector Coords.upVector Coords.normalizeOr Coords.normalizeOrZero Coords.isZero Coords.turnedOf Coords.rotateAbout Coords.allFinite Coords.pointFinite Coords.vectorFinite Geometry.horizontalOf Geometry.leftNormalOf Gather.gather Gather.any Refusal.numberOf Refusal.placeOf Refusal.found Refusal.refuse Refusal.judge Refusal.leaves Lists.longer Lists.uneven Lists.pointAt Lists.vectorAt Lists.wordOf Lists.lastEnd Lists.runBad Lists.runLong Lists.runOf Lists.meshFault Strip.stepOf Strip.keeps Strip.weldNext Strip.welded Strip.lastOf Strip.keptOf Strip.kept Strip.keptPoint Strip.legOf Strip.noLeg Strip.legIn Strip.legOut Strip.alongOf Strip.gradeOf Strip.slopeOf Strip.lateralOf Strip.halfOf Strip.shorterOf Strip.eatOf Strip.pinches Strip.innerOf Strip.turnsLeft Strip.spreadOf Strip.ribAt Strip.walkAt Strip.sixOf Strip.upsOf Strip.noArea Strip.triangleOf Strip.segmentOf Strip.verticesOf Strip.normalsOf Strip.indicesOf SurfaceMesh.laneRun SurfaceMesh.laneAt SurfaceMesh.inputFault SurfaceMesh.laneVertices SurfaceMesh.laneNormals SurfaceMesh.laneIndices SurfaceMesh.spanOf SurfaceMesh.laneSpan SurfaceMesh.meshOf SurfaceMesh.resultFault SurfaceMesh.countsOf SurfaceMesh.readMesh SurfaceMesh.resultOf SurfaceMesh.answerOf
+strip-cases = refl

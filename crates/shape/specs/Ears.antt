@@ -7,7 +7,7 @@ use lib.Ieee.{Float, le, lt}
 use lib.ListN.{length, getD, take, drop}
 use Rattle.vector.specs.Single.{_⊖_, _⊗_, 0f}
 use Rattle.vector.specs.declared.coords.Point.{Point}
-use Rattle.shape.specs.Gather.{gather, any}
+use Rattle.shape.specs.Gather.{gather, any, least}
 use Rattle.shape.specs.Lists.{pointAt, longer, uneven}
 use Rattle.shape.specs.Refusal.{Fault, fine, refuse, Answer, taken, refused, judge, numberOf, placeOf}
 use Rattle.shape.specs.declared.ears.EarAnswer.{EarAnswer}
@@ -61,11 +61,6 @@ earOf ring left a b c = turnsLeft ring a b c && not (any (blocksAt ring left a b
 unfoldable pub isEar : List Float → List ℕ → ℕ → Bool
 unfolding earOf
 isEar ring left k = earOf ring left (at left (before (length left) k)) (at left k) (at left (after (length left) k))
-
--- the least number of which f holds, if that is below n, else n
-unfoldable pub least : (ℕ → Bool) → ℕ → ℕ
-least f zero = 0
-least f (suc n) = cond (f 0) 0 (suc (least (λ k. f (suc k)) n))
 
 -- the first ear by position; as many as there are positions where there is none
 unfoldable pub firstEar : List Float → List ℕ → ℕ

@@ -5,6 +5,7 @@ pub mod Refusal
 pub mod Lists
 pub mod Ears
 pub mod EarSteps
+pub mod CaseTests
 pub mod CasesEars
 pub mod Double
 pub mod Elevation
@@ -17,4 +18,5 @@ pub mod Outline
 pub mod OutlineSteps
 pub mod JunctionMesh
 pub mod CasesJunction
+pub mod Cases
 pub mod Laws

@@ -70,7 +70,7 @@ fn parts(a: Point, b: Point, c: Point, step: f64) -> usize
 }
 
 // Ear k of a ring.
-pub fn ear_at(ring: &[f32], ears: &[u32], k: usize, step: f64) -> Ear
+fn ear_at(ring: &[f32], ears: &[u32], k: usize, step: f64) -> Ear
     requires { ⌜ 3 * k + 2 < length (now ears) ⌝ ∗ ⌜ Within (length (now ring) / 3) (now ears) ⌝ }
     ensures { λ r. ⌜ (r ≡ earCut step (now (ring .entry)) (now (ears .entry)) k) × (r .n ≤ 64) ⌝ }
 {
@@ -95,7 +95,7 @@ fn single(k: usize) -> f32
 }
 
 // Point (i, j) of an ear's lattice.
-pub fn lattice_point(e: Ear, i: usize, j: usize) -> Point
+fn lattice_point(e: Ear, i: usize, j: usize) -> Point
     requires { ⌜ (e .n < 2 ^ 32) × (i < 2 ^ 32) × (j < 2 ^ 32) ⌝ }
     ensures { λ r. ⌜ r ≡ lattice e i j ⌝ }
 {
@@ -150,7 +150,7 @@ fn put_thrice(out: &mut [f32], at: usize, v: Vector) -> usize
 }
 
 // A triangle with its own vertices, and its normal at each.
-pub fn push(
+fn push(
     vertices: &mut [f32],
     normals: &mut [f32],
     at: usize,
@@ -169,7 +169,7 @@ pub fn push(
 // ---- sizes
 
 // How many vertices the triangles of the ears have.
-pub fn count_vertices(ring: &[f32], ears: &[u32], step: f64) -> usize
+fn count_vertices(ring: &[f32], ears: &[u32], step: f64) -> usize
     requires { ⌜ length (now ears) ≤ 3072 ⌝ ∗ ⌜ Within (length (now ring) / 3) (now ears) ⌝ }
     ensures { λ r. ⌜ (r ≡ vertexCount step (now (ring .entry)) (now (ears .entry))) × (r ≤ 12288 * 1024) ⌝ }
 {
@@ -184,7 +184,7 @@ pub fn count_vertices(ring: &[f32], ears: &[u32], step: f64) -> usize
 }
 
 // Why a result of so many vertices is turned back, if it is.
-pub fn result_fault(many: usize, vertices: usize, normals: usize, indices: usize) -> Check
+fn result_fault(many: usize, vertices: usize, normals: usize, indices: usize) -> Check
     requires { ⌜ many ≤ 12288 * 1024 ⌝ }
     ensures { λ r. ⌜ found r ≡ groundFault many vertices normals indices ⌝ }
 {

@@ -15,13 +15,13 @@ use lib.Ieee.{Float, lt}
 use lib.ListN.{length, getD, take, drop, set, length-append, length-take, length-drop, length-set, List·getD-append}
 use lib.Seq.{sets, paste, paste-zero, paste-suc, take-paste, drop-paste, length-paste, take-nil, getD-take, getD-drop, getD-append-add, take-take, take-suc, drop-cons, append-snoc, set-at, length-take-le}
 use Rattle.vector.specs.Single.{0f}
-use Rattle.shape.specs.Gather.{gather, any}
+use Rattle.shape.specs.Gather.{gather, any, least}
 use Rattle.shape.specs.Memory.{Put}
 use Rattle.shape.specs.Lists.{longer, uneven}
 use Rattle.shape.specs.Refusal.{Answer, taken, refused, leaves}
-use Rattle.shape.specs.Ears.{cross, turnsLeft, isEar, least, firstEar, at, before, after, earAt, without, lastEar, cutEars, upTo, earsOf, earsAnswer}
+use Rattle.shape.specs.Ears.{cross, turnsLeft, isEar, firstEar, at, before, after, earAt, without, lastEar, cutEars, upTo, earsOf, earsAnswer}
 use Rattle.shape.specs.EarSteps.{Within, Cut}
-use Rattle.shape.specs.Laws.Gather.{or-left, any-none, gather-next, gather-even}
+use Rattle.shape.specs.Laws.Gather.{or-left, any-none, least-le, gather-next, gather-even}
 use Rattle.shape.specs.Laws.Memory.{put-none, put-then, put-length, put-front}
 
 -- ---- positions in a closed ring
@@ -77,45 +77,6 @@ and-first false y e = refl
 pub and-none : (x y : Bool) → y ≡ false → false ≡ (x && y)
 and-none true y e = sym e
 and-none false y e = refl
-
--- ---- the first of which a test holds
-
-or-some : (a b : Bool) → a ≡ true → (a || b) ≡ true
-or-some a b e = rw e
-
-or-more : (a b : Bool) → b ≡ true → (a || b) ≡ true
-or-more true b e = refl
-or-more false b e = e
-
-pub any-some : (f : ℕ → Bool) (i n : ℕ) → i < n → f i ≡ true → any f n ≡ true
-unfolding any
-any-some f i zero h e = absurd (omega arith)
-any-some f i (suc n) h e =
-    elim (decLt i n) [
-      | yes p ↦ or-some (any f n) (f n) (any-some f i n p e)
-      | no p ↦ (let s : i ≡ n = omega arith in or-more (any f n) (f n) (rw s at e))
-    ]
-
-pub least-at : (f : ℕ → Bool) (n k : ℕ) → k < n → ((j : ℕ) → j < k → f j ≡ false) → f k ≡ true → k ≡ least f n
-unfolding least
-least-at f zero k h none e = absurd (omega arith)
-least-at f (suc n) zero h none e = rw e
-least-at f (suc n) (suc k) h none e =
-    rw (none 0 (omega arith)) (ap suc (least-at (λ j. f (suc j)) n k (omega arith) (λ j l. none (suc j) (omega arith)) e))
-
-pub least-none : (f : ℕ → Bool) (n : ℕ) → ((j : ℕ) → j < n → f j ≡ false) → n ≡ least f n
-unfolding least
-least-none f zero none = refl
-least-none f (suc n) none = rw (none 0 (omega arith)) (ap suc (least-none (λ j. f (suc j)) n (λ j l. none (suc j) (omega arith))))
-
-pub least-le : (f : ℕ → Bool) (n : ℕ) → least f n ≤ n
-unfolding least
-least-le f zero = omega arith
-least-le f (suc n) = go (f 0) (least (λ k. f (suc k)) n) (least-le (λ k. f (suc k)) n)
-  where
-    go : (b : Bool) (k : ℕ) → k ≤ n → cond b 0 (suc k) ≤ suc n
-    go true k h = omega arith
-    go false k h = omega arith
 
 -- ---- an element taken out: those behind it are moved down one by one
 

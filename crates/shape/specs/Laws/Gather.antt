@@ -1,7 +1,7 @@
--- Gathering below one number more, how much is gathered and where it stands, and a test that holds nowhere. Assumes nothing.
-use mathlib.Core.Path.{_≡_, refl, sym, _∙_}
+-- Gathering below one number more, how much is gathered and where it stands, a test that holds nowhere, and the first that it holds of. Assumes nothing.
+use mathlib.Core.Path.{_≡_, refl, sym, ap, _∙_}
 use mathlib.Core.Logic.{_⊎_, inl, inr, ⊎-elim}
-use mathlib.Core.Bool.{Bool, true, false, _||_}
+use mathlib.Core.Bool.{Bool, true, false, cond, _||_}
 use mathlib.Core.List.{List, _++_}
 use Prim.Native.Nat.{ℕ, zero, suc, _+_, _*_, _≤_, _<_}
 use native.Mathlib.Decide.{decLt}
@@ -10,7 +10,7 @@ use native.Mathlib.Numerals.{add-one}
 use native.Mathlib.Omega.{arith}
 use lib.ListN.{length, getD, length-append, List·getD-append}
 use lib.Seq.{getD-append-add}
-use Rattle.shape.specs.Gather.{gather, any}
+use Rattle.shape.specs.Gather.{gather, any, least}
 
 below : (i n : ℕ) → i < suc n → (i < n) ⊎ (n ≡ i)
 below i n h = elim (decLt i n) [ yes p ↦ inl p | no p ↦ inr (omega arith) ]
@@ -100,3 +100,42 @@ unfolding any
 any-none f i zero h e = absurd (omega arith)
 any-none f i (suc n) h e =
     ⊎-elim (λ p. any-none f i n p (or-left (any f n) (f n) e)) (λ p. rw p at (or-right (any f n) (f n) e)) (below i n h)
+
+-- ---- the first of which a test holds
+
+or-some : (a b : Bool) → a ≡ true → (a || b) ≡ true
+or-some a b e = rw e
+
+or-more : (a b : Bool) → b ≡ true → (a || b) ≡ true
+or-more true b e = refl
+or-more false b e = e
+
+pub any-some : (f : ℕ → Bool) (i n : ℕ) → i < n → f i ≡ true → any f n ≡ true
+unfolding any
+any-some f i zero h e = absurd (omega arith)
+any-some f i (suc n) h e =
+    elim (decLt i n) [
+      | yes p ↦ or-some (any f n) (f n) (any-some f i n p e)
+      | no p ↦ (let s : i ≡ n = omega arith in or-more (any f n) (f n) (rw s at e))
+    ]
+
+pub least-at : (f : ℕ → Bool) (n k : ℕ) → k < n → ((j : ℕ) → j < k → f j ≡ false) → f k ≡ true → k ≡ least f n
+unfolding least
+least-at f zero k h none e = absurd (omega arith)
+least-at f (suc n) zero h none e = rw e
+least-at f (suc n) (suc k) h none e =
+    rw (none 0 (omega arith)) (ap suc (least-at (λ j. f (suc j)) n k (omega arith) (λ j l. none (suc j) (omega arith)) e))
+
+pub least-none : (f : ℕ → Bool) (n : ℕ) → ((j : ℕ) → j < n → f j ≡ false) → n ≡ least f n
+unfolding least
+least-none f zero none = refl
+least-none f (suc n) none = rw (none 0 (omega arith)) (ap suc (least-none (λ j. f (suc j)) n (λ j l. none (suc j) (omega arith))))
+
+pub least-le : (f : ℕ → Bool) (n : ℕ) → least f n ≤ n
+unfolding least
+least-le f zero = omega arith
+least-le f (suc n) = go (f 0) (least (λ k. f (suc k)) n) (least-le (λ k. f (suc k)) n)
+  where
+    go : (b : Bool) (k : ℕ) → k ≤ n → cond b 0 (suc k) ≤ suc n
+    go true k h = omega arith
+    go false k h = omega arith

@@ -7,8 +7,7 @@ use denote.Ref.{now}
 use lib.ListN.{length}
 use Rattle.shape.specs.Gather.{any}
 use Rattle.shape.specs.Ears.{blocksAt}
-use Rattle.shape.specs.Laws.Gather.{any-next}
-use Rattle.shape.specs.Laws.Ears.{any-some}
+use Rattle.shape.specs.Laws.Gather.{any-next, any-some}
 use borrow.Author.Needs.{needs}
 use Rattle.shape.proofs.ears.any_blocks.Statement.{statement}
 use Rattle.shape.proofs.ears.any_blocks.Tie as tie

@@ -8,7 +8,7 @@ use lib.ListN.{length}
 use Rattle.shape.specs.Gather.{any}
 use Rattle.shape.specs.Ears.{isEar, firstEar}
 use Rattle.shape.specs.Laws.Gather.{any-none, any-next}
-use Rattle.shape.specs.Laws.Ears.{least-at, least-none}
+use Rattle.shape.specs.Laws.Gather.{least-at, least-none}
 use Rattle.shape.proofs.ears.first_ear.Statement.{statement}
 use Rattle.shape.proofs.ears.first_ear.Tie as tie
 
