@@ -10,6 +10,7 @@ pub mod Consult
 pub mod Steps
 pub mod IndexExamples
 pub mod Sampler
+pub mod Batch
 pub mod Demand3
 pub mod Laws
 pub mod Examples

@@ -1,17 +1,21 @@
 // The indexed lookup: the highest of the point's candidates, with the lane that its triangle belongs to.
 ghost use mathlib.Core.Path.{_≡_};
-ghost use Prim.Native.Nat.{_*_, _/_, _<_, _≤_};
+ghost use mathlib.Core.List.{[], _∷_};
+ghost use Prim.Native.Nat.{_+_, _*_, _/_, _<_, _≤_};
 ghost use lib.Dec.{eqb};
 ghost use lib.ListN.{length};
-ghost use Rattle.shape.specs.Refusal.{found, numberOf};
+ghost use Rattle.shape.specs.Refusal.{fine, found, numberOf, placeOf, leaves};
 ghost use Rattle.shape.specs.Lists.{meshLists};
+ghost use Rattle.shape.specs.Memory.{Put};
 ghost use Rattle.lookup.specs.Sampler.{EndsRise, pastOf, laneOf, topFault, readSampled, topOf};
+ghost use Rattle.lookup.specs.Batch.{wordFor, laneThere, laneId, recordOf, recordAt, recordsOf, topsOf, readSampling};
 use crate::grid::Consulted;
 use crate::grid::at;
 use crate::grid::consult;
 use crate::mesh::Best;
 use crate::mesh::highest;
 use crate::mesh::normal_of;
+use rounding::bits::bits32;
 use shape::lists::mesh_fault;
 use shape::lists::record_word;
 use shape::refusal::Check;
@@ -107,6 +111,33 @@ fn top_fault(
     Check::Faulty(Refusal::Oversize(4194304))
 }
 
+// The answer at (x, y) where the five lists are in order: the highest of the point's candidates, of the
+// lowest number among equals, with its height, normal, number and lane.
+fn sample(
+    vertices: &[f32],
+    normals: &[f32],
+    indices: &[u32],
+    spans: &[u32],
+    index: &[u32],
+    x: f32,
+    y: f32,
+) -> Sampled
+    requires { ⌜ topFault (meshLists (now vertices) (now normals) (now indices) (now spans)) (now index) ≡ fine ⌝ }
+    ensures { λ r. ⌜ readSampled r ≡ topOf (meshLists (now (vertices .entry)) (now (normals .entry)) (now (indices .entry)) (now (spans .entry))) (now (index .entry)) x y ⌝ }
+{
+    match consult(index, indices.len() / 3, x, y) {
+        Consulted::Refused(r) => Sampled::Refused(r),
+        Consulted::Nowhere => Sampled::None,
+        Consulted::Run(a, e) => match highest(vertices, indices, at(index, a, e), x, y) {
+            Best::At(h, t) => {
+                let normal = normal_of(vertices, normals, indices, t, x, y);
+                Sampled::Found(h, normal, t, lane_of(spans, t))
+            }
+            Best::Nothing => Sampled::None,
+        },
+    }
+}
+
 // The highest of the point's candidates, of the lowest number among equals: its height, normal, number
 // and lane.
 pub fn top(
@@ -124,15 +155,203 @@ pub fn top(
     if let Check::Faulty(r) = check {
         return Sampled::Refused(r);
     }
-    match consult(index, indices.len() / 3, x, y) {
-        Consulted::Refused(r) => Sampled::Refused(r),
-        Consulted::Nowhere => Sampled::None,
-        Consulted::Run(a, e) => match highest(vertices, indices, at(index, a, e), x, y) {
-            Best::At(h, t) => {
-                let normal = normal_of(vertices, normals, indices, t, x, y);
-                Sampled::Found(h, normal, t, lane_of(spans, t))
-            }
-            Best::Nothing => Sampled::None,
-        },
+    sample(vertices, normals, indices, spans, index, x, y)
+}
+
+// ---- many points
+
+// What came of a call for many points: how many there were, or why it was turned back.
+pub enum Sampling {
+    Count(usize),
+    Refused(Refusal),
+}
+
+// A count as a word; past the greatest word, that word.
+fn word(n: usize) -> u32
+    ensures { λ r. ⌜ r ≡ wordFor n ⌝ }
+{
+    if n < 0x1_0000_0000 {
+        n as u32
+    } else {
+        0xffff_ffff
     }
+}
+
+// The refusal's number in document 01's table.
+fn number(r: Refusal) -> u32
+    ensures { λ n. ⌜ n ≡ numberOf r ⌝ }
+{
+    match r {
+        Refusal::Oversize(limit) => 1,
+        Refusal::Ragged(list) => 2,
+        Refusal::ShortOutput(wanted) => 3,
+        Refusal::ForeignIndex(word) => 4,
+        Refusal::BadRecord(record) => 5,
+    }
+}
+
+// The place that it names.
+fn place(r: Refusal) -> usize
+    ensures { λ n. ⌜ n ≡ placeOf r ⌝ }
+{
+    match r {
+        Refusal::Oversize(limit) => limit,
+        Refusal::Ragged(list) => list,
+        Refusal::ShortOutput(wanted) => wanted,
+        Refusal::ForeignIndex(word) => word,
+        Refusal::BadRecord(record) => record,
+    }
+}
+
+// Is there a lane? And its id, 0 where there is none.
+fn lane_there(l: Lane) -> u32
+    ensures { λ r. ⌜ r ≡ laneThere l ⌝ }
+{
+    match l {
+        Lane::Id(id) => 1,
+        Lane::None => 0,
+    }
+}
+
+fn lane_id(l: Lane) -> u32
+    ensures { λ r. ⌜ r ≡ laneId l ⌝ }
+{
+    match l {
+        Lane::Id(id) => word(id),
+        Lane::None => 0,
+    }
+}
+
+// Eight words from `at` on, and where they end.
+fn put_eight(
+    out: &mut [u32],
+    at: usize,
+    a: u32,
+    b: u32,
+    c: u32,
+    d: u32,
+    e: u32,
+    f: u32,
+    g: u32,
+    h: u32,
+) -> usize
+    requires { ⌜ at + 8 ≤ length (now out) ⌝ }
+    ensures { λ r. ⌜ Put (now (out .entry)) (now (out .exit)) at (a ∷ b ∷ c ∷ d ∷ e ∷ f ∷ g ∷ h ∷ []) r ⌝ }
+{
+    out[at] = a;
+    out[at + 1] = b;
+    out[at + 2] = c;
+    out[at + 3] = d;
+    out[at + 4] = e;
+    out[at + 5] = f;
+    out[at + 6] = g;
+    out[at + 7] = h;
+    at + 8
+}
+
+// The record of a point's answer, from `at` on.
+fn put_record(out: &mut [u32], at: usize, s: Sampled) -> usize
+    requires { ⌜ at + 8 ≤ length (now out) ⌝ }
+    ensures { λ r. ⌜ Put (now (out .entry)) (now (out .exit)) at (recordOf (readSampled s)) r ⌝ }
+{
+    match s {
+        Sampled::Found(h, n, t, l) => put_eight(
+            out,
+            at,
+            1,
+            bits32(h),
+            bits32(n.x),
+            bits32(n.y),
+            bits32(n.z),
+            word(t),
+            lane_there(l),
+            lane_id(l),
+        ),
+        Sampled::None => put_eight(out, at, 0, 0, 0, 0, 0, 0, 0, 0),
+        Sampled::Refused(r) => put_eight(out, at, 2, number(r), word(place(r)), 0, 0, 0, 0, 0),
+    }
+}
+
+// The record of point k, from `at` on.
+fn put_point(
+    vertices: &[f32],
+    normals: &[f32],
+    indices: &[u32],
+    spans: &[u32],
+    index: &[u32],
+    points: &[f32],
+    k: usize,
+    answers: &mut [u32],
+    at: usize,
+) -> usize
+    requires { ⌜ topFault (meshLists (now vertices) (now normals) (now indices) (now spans)) (now index) ≡ fine ⌝ }
+    requires { ⌜ (k < length (now points) / 2) × (at + 8 ≤ length (now answers)) ⌝ }
+    ensures { λ r. ⌜ Put (now (answers .entry)) (now (answers .exit)) at (recordAt (meshLists (now (vertices .entry)) (now (normals .entry)) (now (indices .entry)) (now (spans .entry))) (now (index .entry)) (now (points .entry)) k) r ⌝ }
+{
+    let x = points[2 * k];
+    let y = points[2 * k + 1];
+    let s = sample(vertices, normals, indices, spans, index, x, y);
+    put_record(answers, at, s)
+}
+
+// The records of all points, at the front of `answers`.
+fn put_points(
+    vertices: &[f32],
+    normals: &[f32],
+    indices: &[u32],
+    spans: &[u32],
+    index: &[u32],
+    points: &[f32],
+    answers: &mut [u32],
+)
+    requires { ⌜ topFault (meshLists (now vertices) (now normals) (now indices) (now spans)) (now index) ≡ fine ⌝ }
+    requires { ⌜ 8 * (length (now points) / 2) ≤ length (now answers) ⌝ }
+    ensures { λ _. ⌜ Put (now (answers .entry)) (now (answers .exit)) 0 (recordsOf (meshLists (now (vertices .entry)) (now (normals .entry)) (now (indices .entry)) (now (spans .entry))) (now (index .entry)) (now (points .entry))) (8 * (length (now (points .entry)) / 2)) ⌝ }
+{
+    let n = points.len() / 2;
+    let mut at: usize = 0;
+    let mut k: usize = 0;
+    while k < n {
+        at = put_point(
+            vertices,
+            normals,
+            indices,
+            spans,
+            index,
+            points,
+            k,
+            answers,
+            at,
+        );
+        k += 1;
+    }
+}
+
+// The answers at many points, eight words each: point by point that of `top`. The lists are looked
+// through once for all points.
+pub fn tops(
+    vertices: &[f32],
+    normals: &[f32],
+    indices: &[u32],
+    spans: &[u32],
+    index: &[u32],
+    points: &[f32],
+    answers: &mut [u32],
+) -> Sampling
+    ensures { λ r. ⌜ readSampling r ≡ topsOf (meshLists (now (vertices .entry)) (now (normals .entry)) (now (indices .entry)) (now (spans .entry))) (now (index .entry)) (now (points .entry)) (length (now (answers .entry))) ⌝ }
+    ensures { λ _. ⌜ now (answers .exit) ≡ leaves (topsOf (meshLists (now (vertices .entry)) (now (normals .entry)) (now (indices .entry)) (now (spans .entry))) (now (index .entry)) (now (points .entry)) (length (now (answers .entry)))) (recordsOf (meshLists (now (vertices .entry)) (now (normals .entry)) (now (indices .entry)) (now (spans .entry))) (now (index .entry)) (now (points .entry))) (now (answers .entry)) ⌝ }
+{
+    let check = top_fault(vertices, normals, indices, spans, index);
+    if let Check::Faulty(r) = check {
+        return Sampling::Refused(r);
+    }
+    if points.len() % 2 != 0 {
+        return Sampling::Refused(Refusal::Ragged(5));
+    }
+    let n = points.len() / 2;
+    if answers.len() < 8 * n {
+        return Sampling::Refused(Refusal::ShortOutput(8 * n));
+    }
+    put_points(vertices, normals, indices, spans, index, points, answers);
+    Sampling::Count(n)
 }

@@ -1,0 +1,55 @@
+-- `lookup::sampler::put_point` meets its contract: the answer there is `sample`'s. Assumes nothing.
+use Rattle.lookup.specs.Batch.{recordAt}
+use borrow.Author.Needs.{needs}
+use Rattle.lookup.proofs.sampler.put_point.Statement.{statement}
+use Rattle.lookup.proofs.sampler.put_point.Tie as tie
+
+mul-x : tie.Need-mul-x
+mul-x c = search needs
+
+mul-x-2 : tie.Need-mul-x-2
+mul-x-2 c = search needs
+
+shared-slice-read-x : tie.Need-shared-slice-read-x
+shared-slice-read-x c = search needs
+
+mul-y : tie.Need-mul-y
+mul-y c = search needs
+
+add-y : tie.Need-add-y
+add-y c = search needs
+
+mul-y-2 : tie.Need-mul-y-2
+mul-y-2 c = search needs
+
+shared-slice-read-y : tie.Need-shared-slice-read-y
+shared-slice-read-y c = search needs
+
+sample-requires : tie.Need-sample-requires
+sample-requires c κs = search needs
+
+put-record-requires : tie.Need-put-record-requires
+put-record-requires c κs = search needs
+
+same-length : tie.Need-same-length
+same-length c = search needs
+
+returns : tie.Need-returns
+unfolding recordAt
+returns c = rw (← c .before .before .before .before .sample .ensures) (c .before .before .put-record .ensures)
+
+pub put-point-spec : {M : Type 1} → statement M
+put-point-spec =
+    tie.close
+    (tie.spec
+    mul-x
+    mul-x-2
+    shared-slice-read-x
+    mul-y
+    add-y
+    mul-y-2
+    shared-slice-read-y
+    sample-requires
+    put-record-requires
+    same-length
+    returns)
