@@ -167,7 +167,7 @@ pub enum Sampling {
 }
 
 // A count as a word; past the greatest word, that word.
-fn word(n: usize) -> u32
+pub fn word(n: usize) -> u32
     ensures { λ r. ⌜ r ≡ wordFor n ⌝ }
 {
     if n < 0x1_0000_0000 {
@@ -178,7 +178,7 @@ fn word(n: usize) -> u32
 }
 
 // The refusal's number in document 01's table.
-fn number(r: Refusal) -> u32
+pub fn number(r: Refusal) -> u32
     ensures { λ n. ⌜ n ≡ numberOf r ⌝ }
 {
     match r {
@@ -191,7 +191,7 @@ fn number(r: Refusal) -> u32
 }
 
 // The place that it names.
-fn place(r: Refusal) -> usize
+pub fn place(r: Refusal) -> usize
     ensures { λ n. ⌜ n ≡ placeOf r ⌝ }
 {
     match r {
@@ -204,7 +204,7 @@ fn place(r: Refusal) -> usize
 }
 
 // Is there a lane? And its id, 0 where there is none.
-fn lane_there(l: Lane) -> u32
+pub fn lane_there(l: Lane) -> u32
     ensures { λ r. ⌜ r ≡ laneThere l ⌝ }
 {
     match l {
@@ -213,7 +213,7 @@ fn lane_there(l: Lane) -> u32
     }
 }
 
-fn lane_id(l: Lane) -> u32
+pub fn lane_id(l: Lane) -> u32
     ensures { λ r. ⌜ r ≡ laneId l ⌝ }
 {
     match l {

@@ -1,0 +1,2 @@
+-- What the exported functions say, by what the inner calls answer.
+pub mod Answers
