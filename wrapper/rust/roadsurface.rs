@@ -1,0 +1,376 @@
+//! The road-surface library for Rust: safe calls of libroadsurface.a (built by `rt staticlib roadsurface`).
+//! A call gives what include/roadsurface.h says, or the refusal; a refused call has written nothing.
+#![allow(dead_code)]
+#![allow(clippy::too_many_arguments)]
+
+mod raw {
+    extern "C" {
+        pub fn rs_elevation_height(
+            origin_x: f64, origin_y: f64, sin: f64, cos: f64, start: f64, spacing: f64,
+            rows: *const u32, rows_count: usize, left: *const f64, left_count: usize,
+            right: *const f64, right_count: usize,
+            s: f64, t: f64, answer: *mut u64, answer_count: usize,
+        ) -> u64;
+        pub fn rs_elevation_height_at(
+            origin_x: f64, origin_y: f64, sin: f64, cos: f64, start: f64, spacing: f64,
+            rows: *const u32, rows_count: usize, left: *const f64, left_count: usize,
+            right: *const f64, right_count: usize,
+            x: f64, y: f64, answer: *mut u64, answer_count: usize,
+        ) -> u64;
+        pub fn rs_ring(
+            segments: *const u32, segments_count: usize, points: *const f32, points_count: usize,
+            ring: *mut f32, ring_count: usize, answer: *mut u64, answer_count: usize,
+        ) -> u64;
+        pub fn rs_ear_clip(
+            ring: *const f32, ring_count: usize, ears: *mut u32, ears_count: usize,
+            answer: *mut u64, answer_count: usize,
+        ) -> u64;
+        pub fn rs_junction_mesh(
+            ring: *const f32, ring_count: usize, has_grid: bool,
+            origin_x: f64, origin_y: f64, sin: f64, cos: f64, start: f64, spacing: f64,
+            rows: *const u32, rows_count: usize, left: *const f64, left_count: usize,
+            right: *const f64, right_count: usize,
+            vertices: *mut f32, vertices_count: usize, normals: *mut f32, normals_count: usize,
+            indices: *mut u32, indices_count: usize, answer: *mut u64, answer_count: usize,
+        ) -> u64;
+        pub fn rs_surface_mesh(
+            points: *const f32, points_count: usize, tangents: *const f32, tangents_count: usize,
+            widths: *const f32, widths_count: usize, banks: *const f32, banks_count: usize,
+            lanes: *const u32, lanes_count: usize,
+            vertices: *mut f32, vertices_count: usize, normals: *mut f32, normals_count: usize,
+            indices: *mut u32, indices_count: usize, spans: *mut u32, spans_count: usize,
+            answer: *mut u64, answer_count: usize,
+        ) -> u64;
+        pub fn rs_height_at(
+            vertices: *const f32, vertices_count: usize, normals: *const f32, normals_count: usize,
+            indices: *const u32, indices_count: usize, spans: *const u32, spans_count: usize,
+            x: f32, y: f32, answer: *mut u64, answer_count: usize,
+        ) -> u64;
+        pub fn rs_build_index(
+            vertices: *const f32, vertices_count: usize, normals: *const f32, normals_count: usize,
+            indices: *const u32, indices_count: usize, spans: *const u32, spans_count: usize,
+            index: *mut u32, index_count: usize, answer: *mut u64, answer_count: usize,
+        ) -> u64;
+        pub fn rs_top(
+            vertices: *const f32, vertices_count: usize, normals: *const f32, normals_count: usize,
+            indices: *const u32, indices_count: usize, spans: *const u32, spans_count: usize,
+            index: *const u32, index_count: usize,
+            x: f32, y: f32, answer: *mut u64, answer_count: usize,
+        ) -> u64;
+        pub fn rs_tops(
+            vertices: *const f32, vertices_count: usize, normals: *const f32, normals_count: usize,
+            indices: *const u32, indices_count: usize, spans: *const u32, spans_count: usize,
+            index: *const u32, index_count: usize, points: *const f32, points_count: usize,
+            records: *mut u32, records_count: usize, answer: *mut u64, answer_count: usize,
+        ) -> u64;
+    }
+}
+
+/// Why a call was turned back.
+#[derive(Clone, Copy, Debug, PartialEq, Eq)]
+pub enum Refusal {
+    /// A list or a result is past this limit.
+    Oversize(u32),
+    /// The list at this position is ragged.
+    Ragged(u32),
+    /// An output has fewer elements than these.
+    ShortOutput(u32),
+    /// The index is not one of the mesh, from this word on.
+    ForeignIndex(u32),
+    /// This record of a surface file is bad.
+    BadRecord(u32),
+}
+
+impl Refusal {
+    fn new(number: u32, place: u32) -> Refusal {
+        match number {
+            1 => Refusal::Oversize(place),
+            2 => Refusal::Ragged(place),
+            3 => Refusal::ShortOutput(place),
+            4 => Refusal::ForeignIndex(place),
+            _ => Refusal::BadRecord(place),
+        }
+    }
+
+    pub fn number(self) -> u32 {
+        match self {
+            Refusal::Oversize(_) => 1,
+            Refusal::Ragged(_) => 2,
+            Refusal::ShortOutput(_) => 3,
+            Refusal::ForeignIndex(_) => 4,
+            Refusal::BadRecord(_) => 5,
+        }
+    }
+
+    pub fn place(self) -> u32 {
+        match self {
+            Refusal::Oversize(p)
+            | Refusal::Ragged(p)
+            | Refusal::ShortOutput(p)
+            | Refusal::ForeignIndex(p)
+            | Refusal::BadRecord(p) => p,
+        }
+    }
+}
+
+/// What a code says: `answer`, if the call was taken.
+fn told<const N: usize>(code: u64, answer: [u64; N]) -> Result<[u64; N], Refusal> {
+    if code == 0 {
+        Ok(answer)
+    } else {
+        Err(Refusal::new((code >> 32) as u32, code as u32))
+    }
+}
+
+fn single(word: u64) -> f32 {
+    f32::from_bits(word as u32)
+}
+
+/// The lists of a mesh.
+#[derive(Clone, Copy)]
+pub struct Mesh<'a> {
+    pub vertices: &'a [f32],
+    pub normals: &'a [f32],
+    pub indices: &'a [u32],
+    pub spans: &'a [u32],
+}
+
+/// The road at a point: its height, normal, triangle and lane.
+#[derive(Clone, Copy, Debug, PartialEq)]
+pub struct Sample {
+    pub height: f32,
+    pub normal: [f32; 3],
+    pub triangle: u32,
+    pub lane: Option<u32>,
+}
+
+/// Where an elevation grid lies, and its rows and heights.
+#[derive(Clone, Copy)]
+pub struct Grid<'a> {
+    pub origin: [f64; 2],
+    pub sin: f64,
+    pub cos: f64,
+    pub start: f64,
+    pub spacing: f64,
+    pub rows: &'a [u32],
+    pub left: &'a [f64],
+    pub right: &'a [f64],
+}
+
+/// Lanes by their points, tangents, widths and banks, each lane a run of them.
+#[derive(Clone, Copy)]
+pub struct Lanes<'a> {
+    pub points: &'a [f32],
+    pub tangents: &'a [f32],
+    pub widths: &'a [f32],
+    pub banks: &'a [f32],
+    pub lanes: &'a [u32],
+}
+
+/// What joining a boundary tells of the ring.
+#[derive(Clone, Copy, Debug, PartialEq)]
+pub struct Outline {
+    pub points: usize,
+    pub dropped: usize,
+    pub gap: f32,
+    pub closed: bool,
+    pub turned: bool,
+}
+
+/// How much of each output a mesh takes.
+#[derive(Clone, Copy, Debug, PartialEq, Eq)]
+pub struct Counts {
+    pub vertices: usize,
+    pub normals: usize,
+    pub indices: usize,
+    pub spans: usize,
+}
+
+fn height_of(a: [u64; 2]) -> Option<f64> {
+    (a[0] == 1).then(|| f64::from_bits(a[1]))
+}
+
+/// The height of a grid at s along and t to the left of its reference line.
+pub fn elevation_height(g: Grid, s: f64, t: f64) -> Result<Option<f64>, Refusal> {
+    let mut a = [0; 2];
+    // The slices are lent for the call, and `a` overlaps none of them. So in each call below.
+    let code = unsafe {
+        raw::rs_elevation_height(
+            g.origin[0], g.origin[1], g.sin, g.cos, g.start, g.spacing,
+            g.rows.as_ptr(), g.rows.len(), g.left.as_ptr(), g.left.len(), g.right.as_ptr(), g.right.len(),
+            s, t, a.as_mut_ptr(), a.len(),
+        )
+    };
+    told(code, a).map(height_of)
+}
+
+/// The height of a grid under (x, y).
+pub fn elevation_height_at(g: Grid, x: f64, y: f64) -> Result<Option<f64>, Refusal> {
+    let mut a = [0; 2];
+    let code = unsafe {
+        raw::rs_elevation_height_at(
+            g.origin[0], g.origin[1], g.sin, g.cos, g.start, g.spacing,
+            g.rows.as_ptr(), g.rows.len(), g.left.as_ptr(), g.left.len(), g.right.as_ptr(), g.right.len(),
+            x, y, a.as_mut_ptr(), a.len(),
+        )
+    };
+    told(code, a).map(height_of)
+}
+
+/// Joins boundary segments to a ring.
+pub fn ring(segments: &[u32], points: &[f32], ring: &mut [f32]) -> Result<Outline, Refusal> {
+    let mut a = [0; 5];
+    let code = unsafe {
+        raw::rs_ring(
+            segments.as_ptr(), segments.len(), points.as_ptr(), points.len(),
+            ring.as_mut_ptr(), ring.len(), a.as_mut_ptr(), a.len(),
+        )
+    };
+    told(code, a).map(|a| Outline {
+        points: a[0] as usize,
+        dropped: a[1] as usize,
+        gap: single(a[2]),
+        closed: a[3] == 1,
+        turned: a[4] == 1,
+    })
+}
+
+/// Cuts a ring into ears, and says how many.
+pub fn ear_clip(ring: &[f32], ears: &mut [u32]) -> Result<usize, Refusal> {
+    let mut a = [0; 1];
+    let code = unsafe {
+        raw::rs_ear_clip(ring.as_ptr(), ring.len(), ears.as_mut_ptr(), ears.len(), a.as_mut_ptr(), a.len())
+    };
+    told(code, a).map(|a| a[0] as usize)
+}
+
+/// The ground inside a boundary as triangles: how many vertices, normals and indices each.
+pub fn junction_mesh(
+    ring: &[f32],
+    grid: Option<Grid>,
+    vertices: &mut [f32],
+    normals: &mut [f32],
+    indices: &mut [u32],
+) -> Result<usize, Refusal> {
+    let none = Grid { origin: [0.0; 2], sin: 0.0, cos: 0.0, start: 0.0, spacing: 0.0, rows: &[], left: &[], right: &[] };
+    let g = grid.unwrap_or(none);
+    let mut a = [0; 1];
+    let code = unsafe {
+        raw::rs_junction_mesh(
+            ring.as_ptr(), ring.len(), grid.is_some(),
+            g.origin[0], g.origin[1], g.sin, g.cos, g.start, g.spacing,
+            g.rows.as_ptr(), g.rows.len(), g.left.as_ptr(), g.left.len(), g.right.as_ptr(), g.right.len(),
+            vertices.as_mut_ptr(), vertices.len(), normals.as_mut_ptr(), normals.len(),
+            indices.as_mut_ptr(), indices.len(), a.as_mut_ptr(), a.len(),
+        )
+    };
+    told(code, a).map(|a| a[0] as usize)
+}
+
+/// The strips of lanes.
+pub fn surface_mesh(
+    l: Lanes,
+    vertices: &mut [f32],
+    normals: &mut [f32],
+    indices: &mut [u32],
+    spans: &mut [u32],
+) -> Result<Counts, Refusal> {
+    let mut a = [0; 4];
+    let code = unsafe {
+        raw::rs_surface_mesh(
+            l.points.as_ptr(), l.points.len(), l.tangents.as_ptr(), l.tangents.len(),
+            l.widths.as_ptr(), l.widths.len(), l.banks.as_ptr(), l.banks.len(),
+            l.lanes.as_ptr(), l.lanes.len(),
+            vertices.as_mut_ptr(), vertices.len(), normals.as_mut_ptr(), normals.len(),
+            indices.as_mut_ptr(), indices.len(), spans.as_mut_ptr(), spans.len(),
+            a.as_mut_ptr(), a.len(),
+        )
+    };
+    told(code, a).map(|a| Counts {
+        vertices: a[0] as usize,
+        normals: a[1] as usize,
+        indices: a[2] as usize,
+        spans: a[3] as usize,
+    })
+}
+
+/// The highest triangle over (x, y), by looking at all of them. The lane is not told.
+pub fn height_at(m: Mesh, x: f32, y: f32) -> Result<Option<Sample>, Refusal> {
+    let mut a = [0; 6];
+    let code = unsafe {
+        raw::rs_height_at(
+            m.vertices.as_ptr(), m.vertices.len(), m.normals.as_ptr(), m.normals.len(),
+            m.indices.as_ptr(), m.indices.len(), m.spans.as_ptr(), m.spans.len(),
+            x, y, a.as_mut_ptr(), a.len(),
+        )
+    };
+    told(code, a).map(|a| {
+        (a[0] == 1).then(|| Sample {
+            height: single(a[1]),
+            normal: [single(a[2]), single(a[3]), single(a[4])],
+            triangle: a[5] as u32,
+            lane: None,
+        })
+    })
+}
+
+/// Builds the index of a mesh, and says how many words it has.
+pub fn build_index(m: Mesh, index: &mut [u32]) -> Result<usize, Refusal> {
+    let mut a = [0; 1];
+    let code = unsafe {
+        raw::rs_build_index(
+            m.vertices.as_ptr(), m.vertices.len(), m.normals.as_ptr(), m.normals.len(),
+            m.indices.as_ptr(), m.indices.len(), m.spans.as_ptr(), m.spans.len(),
+            index.as_mut_ptr(), index.len(), a.as_mut_ptr(), a.len(),
+        )
+    };
+    told(code, a).map(|a| a[0] as usize)
+}
+
+fn sample(a: [u64; 8]) -> Option<Sample> {
+    (a[0] == 1).then(|| Sample {
+        height: single(a[1]),
+        normal: [single(a[2]), single(a[3]), single(a[4])],
+        triangle: a[5] as u32,
+        lane: (a[6] == 1).then_some(a[7] as u32),
+    })
+}
+
+/// The highest of the triangles that the index names for (x, y).
+pub fn top(m: Mesh, index: &[u32], x: f32, y: f32) -> Result<Option<Sample>, Refusal> {
+    let mut a = [0; 8];
+    let code = unsafe {
+        raw::rs_top(
+            m.vertices.as_ptr(), m.vertices.len(), m.normals.as_ptr(), m.normals.len(),
+            m.indices.as_ptr(), m.indices.len(), m.spans.as_ptr(), m.spans.len(),
+            index.as_ptr(), index.len(), x, y, a.as_mut_ptr(), a.len(),
+        )
+    };
+    told(code, a).map(sample)
+}
+
+/// `top` at many points, pairs x, y, into eight words a point: how many points. See `record`.
+pub fn tops(m: Mesh, index: &[u32], points: &[f32], records: &mut [u32]) -> Result<usize, Refusal> {
+    let mut a = [0; 1];
+    let code = unsafe {
+        raw::rs_tops(
+            m.vertices.as_ptr(), m.vertices.len(), m.normals.as_ptr(), m.normals.len(),
+            m.indices.as_ptr(), m.indices.len(), m.spans.as_ptr(), m.spans.len(),
+            index.as_ptr(), index.len(), points.as_ptr(), points.len(),
+            records.as_mut_ptr(), records.len(), a.as_mut_ptr(), a.len(),
+        )
+    };
+    told(code, a).map(|a| a[0] as usize)
+}
+
+/// What the record of point k says: the answer of `top` there.
+pub fn record(records: &[u32], k: usize) -> Result<Option<Sample>, Refusal> {
+    let mut a = [0; 8];
+    for (to, from) in a.iter_mut().zip(&records[8 * k..8 * k + 8]) {
+        *to = u64::from(*from);
+    }
+    if a[0] == 2 {
+        return Err(Refusal::new(a[1] as u32, a[2] as u32));
+    }
+    Ok(sample(a))
+}
