@@ -1,11 +1,13 @@
 -- Document 01, "Verdict on a mesh". Order: no indices; first non-finite vertex; then by triple, a bad index before no area. A short last triple with a bad
 -- index reports the index, else no area. Definitions only. Assumes nothing.
+use mathlib.Core.Path.{_≡_}
 use mathlib.Core.Bool.{Bool, true, false, cond, not}
 use mathlib.Core.List.{List}
-use Prim.Native.Nat.{ℕ, _+_, _*_, _/_}
+use Prim.Native.Nat.{ℕ, _+_, _*_, _/_, _<_}
 use lib.Dec.{ltb, leb, eqb}
 use lib.ListN.{length, getD}
-use lib.Ieee.{Float}
+use lib.Ieee.{Float, nan}
+use lib.Ieee.Scale.{finite}
 use Rattle.vector.specs.Coords.{pointFinite}
 use Rattle.shape.specs.declared.validate.Finding.{Finding}
 use Rattle.shape.specs.declared.validate.Finding.the-variants.{Fine, Past, Flat}
@@ -20,6 +22,10 @@ use Rattle.shape.specs.Strip.{noArea}
 unfoldable pub unsound : List Float → ℕ → Bool
 unfolding pointFinite pointAt
 unsound vs i = not (pointFinite (pointAt vs i))
+
+-- the first n numbers of a list are finite
+abbrev pub FiniteBelow : List Float → ℕ → Type 0
+FiniteBelow xs n = (k : ℕ) → k < n → finite (getD xs k nan) ≡ true
 
 -- a triangle of three vertices: it repeats one, or has no area
 unfoldable pub flatOr : List Float → ℕ → ℕ → ℕ → Finding

@@ -1,17 +1,20 @@
 // Whether a mesh can back a physics collider (`Mesh::validate`).
 ghost use mathlib.Core.Path.{_≡_};
-ghost use Prim.Native.Nat.{_*_, _/_, _<_};
+ghost use mathlib.Core.Bool.{true, _&&_};
+ghost use Prim.Native.Nat.{_+_, _*_, _/_, _<_};
 ghost use lib.ListN.{length};
 ghost use Rattle.shape.specs.Gather.{least};
 ghost use Rattle.shape.specs.Refusal.{judge, taken};
-ghost use Rattle.shape.specs.Lists.{meshLists, meshFault};
-ghost use Rattle.shape.specs.Verdict.{unsound, findingOf, flatOr, isFaulty, triplesOf, faultyAt, tell, ofTriangles, validityOf, readVerdict};
+ghost use Rattle.shape.specs.Lists.{pointAt, meshLists, meshFault};
+ghost use Rattle.shape.specs.Verdict.{FiniteBelow, unsound, findingOf, flatOr, triplesOf, faultyAt, tell, ofTriangles, validityOf, readVerdict};
 use crate::lists::mesh_fault;
 use crate::lists::point_at;
 use crate::lists::word_at;
 use crate::mesh::no_area;
 use crate::refusal::Check;
 use crate::refusal::Refusal;
+use rounding::extremes::is_finite32;
+use vector::coords::Point;
 
 // What `validate` answers, with the counts of the finding.
 pub enum Verdict {
@@ -34,8 +37,27 @@ enum Finding {
     Flat,
 }
 
+fn both(a: bool, b: bool) -> bool
+    ensures { λ r. ⌜ r ≡ (a && b) ⌝ }
+{
+    if a { b } else { false }
+}
+
+// Are all the numbers finite? There is no early exit, so that several are tested at a time.
+fn every_finite(xs: &[f32]) -> bool
+    ensures { λ r. ⌜ (r ≡ true → FiniteBelow (now (xs .entry)) (length (now (xs .entry)))) ⌝ }
+{
+    let mut ok = true;
+    let mut i: usize = 0;
+    while i < xs.len() {
+        ok = both(ok, is_finite32(xs[i]));
+        i += 1;
+    }
+    ok
+}
+
 // The first vertex that is not finite, and their number where all are.
-fn first_unsound(vertices: &[f32]) -> usize
+fn search_unsound(vertices: &[f32]) -> usize
     ensures { λ r. ⌜ r ≡ least (unsound (now (vertices .entry))) (length (now (vertices .entry)) / 3) ⌝ }
 {
     let n = vertices.len() / 3;
@@ -47,6 +69,16 @@ fn first_unsound(vertices: &[f32]) -> usize
         i += 1;
     }
     n
+}
+
+// The same. In most meshes all are finite, which takes no search to see.
+fn first_unsound(vertices: &[f32]) -> usize
+    ensures { λ r. ⌜ r ≡ least (unsound (now (vertices .entry))) (length (now (vertices .entry)) / 3) ⌝ }
+{
+    if every_finite(vertices) {
+        return vertices.len() / 3;
+    }
+    search_unsound(vertices)
 }
 
 // What is found of triangle t. The last may have fewer than three corners: a bad index of it counts
@@ -102,25 +134,69 @@ fn flat_or_fine(vertices: &[f32], a: usize, b: usize, c: usize) -> Finding
     Finding::Fine
 }
 
-fn is_faulty(f: Finding) -> bool
-    ensures { λ r. ⌜ r ≡ isFaulty f ⌝ }
+fn wide(i: u32) -> usize
+    ensures { λ r. ⌜ r ≡ i ⌝ }
 {
-    match f {
-        Finding::Fine => false,
-        Finding::Past(_) => true,
-        Finding::Flat => true,
+    i as usize
+}
+
+// Vertex i, which the list holds.
+fn corner(vertices: &[f32], i: usize) -> Point
+    requires { ⌜ i < length (now vertices) / 3 ⌝ }
+    ensures { λ r. ⌜ r ≡ pointAt (now (vertices .entry)) i ⌝ }
+{
+    let at = 3 * i;
+    Point {
+        x: vertices[at],
+        y: vertices[at + 1],
+        z: vertices[at + 2],
     }
 }
 
-// The first triangle with something wrong, and their number where there is none. A short last one is
-// counted.
+// Is something wrong with triangle t, which has three indices, in a mesh of n vertices?
+fn whole_faulty(vertices: &[f32], indices: &[u32], n: usize, t: usize) -> bool
+    requires { ⌜ (n ≡ length (now vertices) / 3) × (3 * t + 2 < length (now indices)) ⌝ }
+    ensures { λ r. ⌜ r ≡ faultyAt (now (vertices .entry)) (now (indices .entry)) t ⌝ }
+{
+    let at = 3 * t;
+    let a = wide(indices[at]);
+    let b = wide(indices[at + 1]);
+    let c = wide(indices[at + 2]);
+    if n <= a {
+        return true;
+    }
+    if n <= b {
+        return true;
+    }
+    if n <= c {
+        return true;
+    }
+    if a == b {
+        return true;
+    }
+    if b == c {
+        return true;
+    }
+    if a == c {
+        return true;
+    }
+    no_area(
+        corner(vertices, a),
+        corner(vertices, b),
+        corner(vertices, c),
+    )
+}
+
+// The first triangle with something wrong, and their number where there is none. A short last one has
+// something wrong in any case.
 fn first_faulty(vertices: &[f32], indices: &[u32]) -> usize
     ensures { λ r. ⌜ r ≡ least (faultyAt (now (vertices .entry)) (now (indices .entry))) (triplesOf (now (indices .entry))) ⌝ }
 {
-    let m = (indices.len() + 2) / 3;
+    let n = vertices.len() / 3;
+    let m = indices.len() / 3;
     let mut t: usize = 0;
     while t < m {
-        if is_faulty(examine(vertices, indices, t)) {
+        if whole_faulty(vertices, indices, n, t) {
             return t;
         }
         t += 1;
