@@ -127,7 +127,7 @@ SHAPES = {
     27: ('no_area', 300, plain(9, 1)), 28: ('patch', 100, plain(32, 32)), 29: ('slopes', 300, plain(12, 5)),
     30: ('elevation_height', 60, elevation_case), 31: ('elevation_height_at', 60, elevation_case),
     33: ('ring', 150, ring_case), 34: ('ear_clip', 120, ear_case), 35: ('junction_mesh', 60, junction_case, 1800),
-    36: ('surface_mesh', 80, surface_case),
+    36: ('surface_mesh', 80, surface_case), 37: ('validate', 100, validate_case),
 }
 
 def cases(number, inputs, answers):
@@ -395,6 +395,9 @@ def mesh_limits(answer):
         found.append(case(2, 3, spans=lent([7, 0, 0] + first + [8, 0, 0] + second)))
     return found
 
+def validate_limits():
+    return mesh_limits(validate_answer)
+
 def validate_answer(vertices, normals, indices, spans):
     """The corners (0, 0), (4, 0), (0, 4): sound but for a short last triple, which has no area (its indices name
     vertices)."""
@@ -402,4 +405,4 @@ def validate_answer(vertices, normals, indices, spans):
     return [0, 4, triples, 0, 0] if left else [0, 0, 0, 0, 0]
 
 LIMITS = {330: elevation_limits, 331: elevation_limits, 333: ring_limits, 334: ear_limits, 335: junction_limits,
-          336: surface_limits}
+          336: surface_limits, 337: validate_limits}

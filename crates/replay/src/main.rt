@@ -14,6 +14,7 @@ mod shape_ops;
 mod stream;
 mod text;
 mod vector_ops;
+mod verdict_ops;
 
 ghost use mathlib.Core.Path.{_≡_};
 ghost use mathlib.Core.Bool.{true};

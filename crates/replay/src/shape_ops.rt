@@ -6,6 +6,7 @@ use crate::grid_ops;
 use crate::junction_ops;
 use crate::mesh_ops;
 use crate::outline_ops;
+use crate::verdict_ops;
 
 fn call(op: u32, given: &[u32], made: &mut [u32]) -> usize {
     match op {
@@ -17,6 +18,7 @@ fn call(op: u32, given: &[u32], made: &mut [u32]) -> usize {
         34 => junction_ops::ear_case(given, made),
         35 => junction_ops::junction_case(given, made),
         36 => mesh_ops::surface_case(given, made),
+        37 => verdict_ops::validate_case(given, made),
         _ => 0,
     }
 }

@@ -6,3 +6,4 @@ pub mod Strips
 pub mod Meshing
 pub mod Joining
 pub mod Reaching
+pub mod Verdicts

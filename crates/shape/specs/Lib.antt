@@ -14,6 +14,7 @@ pub mod CasesElevation
 pub mod Strip
 pub mod SurfaceMesh
 pub mod CasesStrips
+pub mod Verdict
 pub mod Outline
 pub mod OutlineSteps
 pub mod JunctionMesh

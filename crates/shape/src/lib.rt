@@ -6,3 +6,4 @@ pub mod junction_areas;
 pub mod lists;
 pub mod mesh;
 pub mod refusal;
+pub mod validate;
