@@ -1,0 +1,2 @@
+// The surface file, and the text that `probe` prints of one.
+mod text;
