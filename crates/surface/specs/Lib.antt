@@ -1,0 +1,5 @@
+-- The definitions, a file for each part of document 01's "Surface file and `probe`", and the laws about them.
+pub mod File
+pub mod FileSteps
+pub mod Held
+pub mod Laws

@@ -1,0 +1,3 @@
+// The surface file: records as bytes and as held words, and the mesh that they stand for.
+pub mod file;
+pub mod held;
