@@ -1,0 +1,2 @@
+-- Laws about the definitions, for the proofs here and in the crates above.
+pub mod File
