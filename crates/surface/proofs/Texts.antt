@@ -1,17 +1,16 @@
 -- Decimal digits one after another, how many there are, and a byte put after others. Assumes nothing.
 use mathlib.Core.Path.{_≡_, refl, sym, ap, _∙_}
-use mathlib.Core.Bool.{Bool, true, false, cond}
 use mathlib.Core.List.{List, [], _∷_, _++_}
 use Prim.Native.Nat.{ℕ, zero, suc, _+_, _*_, _/_, _%_, _^_, _≤_, _<_}
 use native.Mathlib.Nat.{pow-suc}
 use native.Mathlib.Numerals.{add-one}
 use native.Mathlib.Omega.{arith}
-use lib.Dec.{ltb}
-use lib.ListN.{length, take, getD, set, length-append}
+use lib.ListN.{length, take, getD, set}
 use lib.Seq.{take-suc}
 use borrow.Author.Tests.{lt-ltb, le-ltb}
 use Rattle.shape.specs.Memory.{Put}
 use Rattle.shape.specs.Laws.Memory.{put-then}
+use Rattle.surface.specs.Laws.Text.{digits-few}
 use Rattle.surface.specs.Text.{ascii, digit, digitsOf, hexDigit, numbered, laneText}
 
 pub one-put : (m : List ℕ) (at b : ℕ) → Put m (set m at b) at (b ∷ []) (at + 1)
@@ -34,15 +33,6 @@ digits-one (suc k) n h = rw (lt-ltb n 10 h)
 digits-more : (k n : ℕ) → 10 ≤ n → digitsOf (suc k) n ≡ digitsOf k (n / 10) ++ digit (n % 10) ∷ []
 unfolding digitsOf
 digits-more k n h = rw (le-ltb n 10 h)
-
-pub digits-few : (k n : ℕ) → length (digitsOf k n) ≤ suc k
-unfolding digitsOf
-digits-few zero n = omega arith
-digits-few (suc k) n = go (ltb n 10) (digits-few k (n / 10))
-  where
-    go : (b : Bool) → length (digitsOf k (n / 10)) ≤ suc k → length (cond b (digit n ∷ []) (digitsOf k (n / 10) ++ digit (n % 10) ∷ [])) ≤ suc (suc k)
-    go true h = omega arith
-    go false h = rw length-append (omega arith)
 
 pub digits-last : (m₀ m m′ : List ℕ) (at q r n : ℕ) → 10 ≤ n → ((k : ℕ) → n / 10 < 10 ^ suc k → Put m₀ m at (digitsOf k (n / 10)) q)
     → Put m m′ q (digit (n % 10) ∷ []) r → (k : ℕ) → n < 10 ^ suc k → Put m₀ m′ at (digitsOf k n) r

@@ -1,2 +1,4 @@
 -- Laws about the definitions, for the proofs here and in the crates above.
 pub mod File
+pub mod Text
+pub mod Report

@@ -73,7 +73,6 @@ fn reason_of(r: Refusal) -> Reason
 fn put_refusal(out: &mut [u8], r: Refusal) -> usize
     requires { ⌜ (34 ≤ length (now out)) × (placeOf r < 2 ^ 32) ⌝ }
     ensures { λ n. ⌜ Put (now (out .entry)) (now (out .exit)) 0 (refusedLine (numberOf r) (placeOf r)) n ⌝ }
-    ensures { λ n. ⌜ n ≤ 34 ⌝ }
 {
     let w = reason_of(r);
     put_refused(out, 0, w.number, w.place)
@@ -131,7 +130,6 @@ fn put_lines(
     requires { ⌜ now index ≡ indexIn (now held) ⌝ }
     requires { ⌜ 204834 ≤ length (now out) ⌝ }
     ensures { λ r. ⌜ Put (now (out .entry)) (now (out .exit)) 0 (linesOf (now (held .entry))) r ⌝ }
-    ensures { λ r. ⌜ r ≤ 204834 ⌝ }
 {
     let n = sizes.questions;
     let mut told = Told { at: 0, found: 0 };
@@ -155,7 +153,6 @@ fn put_mesh(
     requires { ⌜ Unpacked (now held) sizes (now vertices) (now normals) (now indices) ⌝ }
     requires { ⌜ 204834 ≤ length (now out) ⌝ }
     ensures { λ r. ⌜ Put (now (out .entry)) (now (out .exit)) 0 (surfaceText (now (held .entry))) r ⌝ }
-    ensures { λ r. ⌜ r ≤ 204834 ⌝ }
 {
     let mut index = [0u32; 16384];
     match build(vertices, normals, indices, &indices[..0], &mut index) {
@@ -169,7 +166,6 @@ fn put_surface(held: &[u32], out: &mut [u8]) -> usize
     requires { ⌜ length (now held) ≤ 16384 ⌝ }
     requires { ⌜ 204834 ≤ length (now out) ⌝ }
     ensures { λ r. ⌜ Put (now (out .entry)) (now (out .exit)) 0 (surfaceText (now (held .entry))) r ⌝ }
-    ensures { λ r. ⌜ r ≤ 204834 ⌝ }
 {
     let mut vertices = [0.0f32; 6144];
     let mut normals = [0.0f32; 6144];
@@ -187,7 +183,6 @@ fn put_surface(held: &[u32], out: &mut [u8]) -> usize
 fn put_report(bytes: &[u8], out: &mut [u8]) -> usize
     requires { ⌜ 204834 ≤ length (now out) ⌝ }
     ensures { λ r. ⌜ Put (now (out .entry)) (now (out .exit)) 0 (reportOf (now (bytes .entry))) r ⌝ }
-    ensures { λ r. ⌜ r ≤ 204834 ⌝ }
 {
     let mut held = [0u32; 16384];
     match read(bytes, &mut held) {

@@ -1,0 +1,119 @@
+-- The text of a file has a bound, its mesh is always in order, and no lookup that it is made of is turned back. Assumes nothing.
+use mathlib.Core.Path.{_≡_, refl, sym, ap, _∙_}
+use mathlib.Core.Bool.{Bool, true, false, cond, not}
+use mathlib.Core.List.{List, []}
+use Prim.Native.Nat.{ℕ, zero, suc, _+_, _*_, _/_, _%_, _≤_, _<_}
+use native.Mathlib.Numerals.{add-one}
+use native.Mathlib.Omega.{arith}
+use borrow.Author.Tests.{le-ltb, eq-eqb}
+use lib.Dec.{ltb, eqb}
+use lib.Ieee.{Float}
+use lib.ListN.{length, take, replicate, length-append, length-replicate}
+use lib.Seq.{take-append-seam}
+use Rattle.shape.specs.Gather.{gather, any}
+use Rattle.shape.specs.Lists.{longer, uneven, meshFault}
+use Rattle.shape.specs.Refusal.{Fault, fine, fault, refuse, Answer, taken, refused, judge, leaves}
+use Rattle.shape.specs.Laws.Gather.{gather-even, gather-most}
+use Rattle.lookup.specs.Index.{indexWords, candidatesOf, buildOf, answerTo}
+use Rattle.lookup.specs.Demand3.{BuiltFrom}
+use Rattle.lookup.specs.Sampler.{Sample, hit, miss, sampleIn, topOf}
+use Rattle.lookup.specs.Laws.Limits.{judged}
+use Rattle.lookup.specs.Laws.Demand3.{top-taken, words-fit}
+use Rattle.surface.specs.File.{wordsOf, fileFault}
+use Rattle.surface.specs.Held.{howMany, isKind, countKind, placeIn, normalIn, cornersIn, verticesOf, normalsOf, indicesOf, laneOf}
+use Rattle.surface.specs.Report.{meshIn, indexIn, sampleAt, lineOf, lineAt, answeredAt, linesOf, orRefused, reportOf}
+use Rattle.surface.specs.Laws.File.{words-length, whole-file}
+use Rattle.surface.specs.Laws.Text.{found-few, none-few, asked-few, refused-few}
+
+-- ---- counts
+
+pub how-many-most : (f : ℕ → Bool) (n : ℕ) → howMany f n ≤ n
+unfolding howMany
+how-many-most f zero = omega arith
+how-many-most f (suc n) = go (f n) (how-many-most f n)
+  where
+    go : (b : Bool) → howMany f n ≤ n → howMany f n + cond b 1 0 ≤ suc n
+    go true h = omega arith
+    go false h = omega arith
+
+pub how-many-next : (f : ℕ → Bool) (n : ℕ) → howMany f (n + 1) ≡ howMany f n + cond (f n) 1 0
+unfolding howMany
+how-many-next f n = rw add-one
+
+pub kind-most : (ws : List ℕ) (kind : ℕ) → length ws ≤ 16384 → countKind ws kind ≤ 2048
+unfolding countKind
+kind-most ws kind h = omega (arith, how-many-most (isKind ws kind) (length ws / 8))
+
+-- ---- the length of the text
+
+line-few : (ws : List ℕ) (k : ℕ) → length (lineAt ws k) ≤ 100
+unfolding lineAt lineOf
+line-few ws k = go (sampleAt ws k)
+  where
+    go : (s : Sample) → length (lineOf ws k s) ≤ 100
+    go (hit h n t l) = found-few k h n t (laneOf ws t)
+    go miss = none-few k
+
+-- of the first n lines
+pub lines-few : (ws : List ℕ) (n : ℕ) → length (gather (lineAt ws) n) ≤ 100 * n
+lines-few ws n = gather-most (lineAt ws) 100 (line-few ws) n
+
+text-few : (ws : List ℕ) → length ws ≤ 16384 → length (linesOf ws) ≤ 204834
+unfolding linesOf
+text-few ws h =
+    let n = countKind ws 3 in
+    rw length-append (omega (arith, lines-few ws n, asked-few n (howMany (answeredAt ws) n), kind-most ws 3 h))
+
+-- the text of a file is never longer than 2,048 lines of 100 bytes and a last line of 34
+pub report-fits : (bs : List ℕ) → length (reportOf bs) ≤ 204834
+unfolding reportOf orRefused judge
+report-fits bs = go (fileFault bs) (whole-file bs) (buildOf (meshIn (wordsOf bs)) 16384)
+  where
+    go : (f : Fault) → (f ≡ fine → (length bs % 32 ≡ 0) × (length bs ≤ 65536)) → (a : Answer ℕ)
+        → length (orRefused (judge f a) (linesOf (wordsOf bs))) ≤ 204834
+    go fine h (taken n) = text-few (wordsOf bs) (omega (arith, h refl .1, words-length bs))
+    go fine h (refused number place) = omega (arith, refused-few number place)
+    go (fault number place) h a = omega (arith, refused-few number place)
+
+-- ---- the mesh of a surface
+
+three : (n k : ℕ) → n ≡ 3 * k → n % 3 ≡ 0
+three n k e = omega arith
+
+module _ (ws : List ℕ) where
+  place-length : (i : ℕ) → length (placeIn ws i) ≡ 3
+  unfolding placeIn
+  place-length i = refl
+
+  normal-length : (i : ℕ) → length (normalIn ws i) ≡ 3
+  unfolding normalIn
+  normal-length i = refl
+
+  corners-length : (i : ℕ) → length (cornersIn ws i) ≡ 3
+  unfolding cornersIn
+  corners-length i = refl
+
+  pub vertices-length : length (verticesOf ws) ≡ 3 * countKind ws 1
+  unfolding verticesOf
+  vertices-length = gather-even (placeIn ws) 3 place-length (countKind ws 1)
+
+  pub normals-length : length (normalsOf ws) ≡ 3 * countKind ws 1
+  unfolding normalsOf
+  normals-length = gather-even (normalIn ws) 3 normal-length (countKind ws 1)
+
+  pub indices-length : length (indicesOf ws) ≡ 3 * countKind ws 2
+  unfolding indicesOf
+  indices-length = gather-even (cornersIn ws) 3 corners-length (countKind ws 2)
+
+  -- it is never turned back: of the refusals of a file's text, 1 and 5 are the file's own and 3 is for its index
+  pub mesh-fine : length ws ≤ 16384 → meshFault (meshIn ws) ≡ fine
+  unfolding meshFault meshIn refuse longer uneven any
+  mesh-fine h =
+      let v : length (verticesOf ws) ≤ 196608 = omega (arith, vertices-length, kind-most ws 1 h) in
+      let n : length (normalsOf ws) ≤ 196608 = omega (arith, normals-length, kind-most ws 1 h) in
+      let i : length (indicesOf ws) ≤ 196608 = omega (arith, indices-length, kind-most ws 2 h) in
+      rw (le-ltb 196608 (length (verticesOf ws)) v, le-ltb 196608 (length (normalsOf ws)) n, le-ltb 196608 (length (indicesOf ws)) i, eq-eqb (length (verticesOf ws) % 3) 0 (three _ _ vertices-length), eq-eqb (length (normalsOf ws) % 3) 0 (three _ _ normals-length))
+
+  pub build-fine : length ws ≤ 16384 → buildOf (meshIn ws) 16384 ≡ answerTo (indexIn ws) 16384
+  unfolding buildOf judge meshIn indexIn
+  build-fine h = rw (mesh-fine h)
