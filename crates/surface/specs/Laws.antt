@@ -1,2 +1,3 @@
 -- Laws about the definitions, for the proofs here and in the crates above.
 pub mod File
+pub mod Records
