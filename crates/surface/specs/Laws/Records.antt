@@ -17,7 +17,7 @@ use Rattle.surface.specs.Laws.File.{words-length}
 
 -- ---- how many there are
 
-positive : (r : ℕ) → (r ≡ 0 → ⊥) → 0 < r
+pub positive : (r : ℕ) → (r ≡ 0 → ⊥) → 0 < r
 positive zero e = absurd (e refl)
 positive (suc r) e = omega arith
 
