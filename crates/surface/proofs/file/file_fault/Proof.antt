@@ -1,6 +1,4 @@
 -- `surface::file::file_fault` meets its contract, by the test that led to each return. Assumes nothing.
-use mathlib.Core.Path.{_≡_, refl, sym, ap, _∙_}
-use denote.Ref.{now}
 use borrow.Author.Tests.{lt-ltb, le-ltb}
 use Rattle.shape.specs.Refusal.{found, numberOf, placeOf, refuse}
 use Rattle.surface.specs.File.{recordFault, fileFault}
@@ -18,14 +16,14 @@ returns c = rw (← (c .before .count-parts .ensures), lt-ltb _ _ (c .if1 .taken
 first-bad-file-requires : tie.Need-first-bad-file-requires
 first-bad-file-requires c κs = search needs
 
-returns-2 : tie.Need-returns-2
-unfolding fileFault recordFault refuse found numberOf placeOf
-returns-2 c = rw (← (c .before .before .before .count-parts .ensures), le-ltb _ _ (c .before .before .if1 .left), ← (c .before .first-bad-file .ensures), lt-ltb _ _ (c .if2 .taken))
+bad-record-requires : tie.Need-bad-record-requires
+bad-record-requires c κs = search needs
 
-returns-3 : tie.Need-returns-3
-unfolding fileFault recordFault refuse found numberOf placeOf
-returns-3 c = rw (← (c .before .before .before .count-parts .ensures), le-ltb _ _ (c .before .before .if1 .left), ← (c .before .first-bad-file .ensures), le-ltb _ _ (c .if2 .left))
+returns-2 : tie.Need-returns-2
+unfolding fileFault recordFault refuse
+returns-2 c = rw (← (c .before .before .before .count-parts .ensures), le-ltb _ _ (c .before .before .if1 .left), ← (c .before .first-bad-file .ensures)) (c .bad-record .ensures)
 
 pub file-fault-spec : {M : Type 1} → statement M
 file-fault-spec =
-    tie.close (tie.spec count-parts-requires returns first-bad-file-requires returns-2 returns-3)
+    tie.close
+    (tie.spec count-parts-requires returns first-bad-file-requires bad-record-requires returns-2)
