@@ -27,7 +27,8 @@ use Rattle.surface.specs.Held.{howMany, countKind, sizesOf, laneOf, indi
 use Rattle.surface.specs.Text.{foundLine, noneLine, askedLine}
 use Rattle.surface.specs.Report.{meshIn, indexIn, given, sampleAt, answered, lineOf, lineAt, answeredAt, linesOf}
 use Rattle.surface.specs.ReportSteps.{Unpacked, Tells}
-use Rattle.surface.specs.Laws.Report.{how-many-next, kind-most, indices-length}
+use Rattle.surface.specs.Laws.Held.{howMany-next, indices-length}
+use Rattle.surface.specs.Laws.Report.{kind-most}
 
 module _ (ws : List ℕ) (k : ℕ) {m m′ : List ℕ} (told : Told) {r : ℕ} where
   tells : (b : Bool) {xs : List ℕ} → xs ≡ lineAt ws k → b ≡ answeredAt ws k → Put m m′ (told .at) xs r → r ≤ told .at + 100
@@ -95,7 +96,7 @@ module _ (ws : List ℕ) {m₀ m : List ℕ} (k : ℕ) (told : Told) (p : Put m�
   next-line next t = put-turn (lineAt ws) k p (t .line)
 
   pub next-count : {m′ : List ℕ} (next : Told) → Tells ws k m m′ told next → next .found ≡ howMany (answeredAt ws) (k + 1)
-  next-count next t = t .count ∙ rw (e, how-many-next (answeredAt ws) k)
+  next-count next t = t .count ∙ rw (e, howMany-next (answeredAt ws) k)
 
   -- and the last line
   pub last-line : {m′ : List ℕ} {n r : ℕ} → n ≡ countKind ws 3 → k ≡ n → Put m m′ (told .at) (askedLine n (told .found)) r → Put m₀ m′ 0 (linesOf ws) r

@@ -1,12 +1,12 @@
 // The surface file. A file is bytes and a held surface is words, eight to a record; both are judged by
 // one rule and are turned into each other.
 ghost use mathlib.Core.Path.{_≡_};
-ghost use mathlib.Core.Bool.{_||_};
 ghost use Prim.Native.Nat.{_+_, _-_, _*_, _/_, _≤_, _<_};
+ghost use lib.Dec.{ltb};
 ghost use lib.ListN.{length, take, drop};
 ghost use Rattle.shape.specs.Gather.{any, least};
 ghost use Rattle.shape.specs.Memory.{Put};
-ghost use Rattle.shape.specs.Refusal.{found, leaves};
+ghost use Rattle.shape.specs.Refusal.{fine, refuse, found, leaves};
 ghost use Rattle.surface.specs.File.{wordAt, wordsOf, fourBytes, bytesOf, kindOf, spareFrom, spareUsed, badAt, parts, heldRecord, fileRecord, heldFault, fileFault, readOf, writeOf, readCopied};
 ghost use Rattle.surface.specs.FileSteps.{soundKind};
 use shape::refusal::Check;
@@ -204,6 +204,16 @@ fn count_parts(n: usize, size: usize) -> usize
     n / size + 1
 }
 
+// What is said of n records whose first bad one is k, n where there is none.
+fn bad_record(k: usize, n: usize) -> Check
+    ensures { λ r. ⌜ found r ≡ refuse (ltb k n) 5 k fine ⌝ }
+{
+    if k < n {
+        return Check::Faulty(Refusal::BadRecord(k));
+    }
+    Check::Fine
+}
+
 // Why held words are turned back, if they are.
 pub fn held_fault(held: &[u32]) -> Check
     ensures { λ r. ⌜ found r ≡ heldFault (now (held .entry)) ⌝ }
@@ -212,11 +222,7 @@ pub fn held_fault(held: &[u32]) -> Check
     if 2048 < n {
         return Check::Faulty(Refusal::Oversize(2048));
     }
-    let k = first_bad_held(held, n);
-    if k < n {
-        return Check::Faulty(Refusal::BadRecord(k));
-    }
-    Check::Fine
+    bad_record(first_bad_held(held, n), n)
 }
 
 // Why a file is turned back, if it is.
@@ -227,11 +233,7 @@ pub fn file_fault(bytes: &[u8]) -> Check
     if 2048 < n {
         return Check::Faulty(Refusal::Oversize(2048));
     }
-    let k = first_bad_file(bytes, n);
-    if k < n {
-        return Check::Faulty(Refusal::BadRecord(k));
-    }
-    Check::Fine
+    bad_record(first_bad_file(bytes, n), n)
 }
 
 // The words of a file into `held`.

@@ -1,5 +1,6 @@
 // The mesh and the questions that held words stand for.
 ghost use mathlib.Core.Path.{_≡_};
+ghost use mathlib.Core.Bool.{cond};
 ghost use Prim.Native.Nat.{_+_, _*_, _/_, _^_, _≤_, _<_};
 ghost use mathlib.Core.List.{[], _∷_};
 ghost use lib.ListN.{length};
@@ -40,6 +41,12 @@ fn single(held: &[u32], k: usize, j: usize) -> f32
     from_bits32(word(held, k, j))
 }
 
+fn one_if(b: bool) -> usize
+    ensures { λ r. ⌜ r ≡ cond b 1 0 ⌝ }
+{
+    if b { 1 } else { 0 }
+}
+
 // How many records are of this kind.
 fn count_kind(held: &[u32], kind: u32) -> usize
     requires { ⌜ length (now held) ≤ 16384 ⌝ }
@@ -49,9 +56,7 @@ fn count_kind(held: &[u32], kind: u32) -> usize
     let mut found: usize = 0;
     let mut k: usize = 0;
     while k < n {
-        if word(held, k, 0) == kind {
-            found += 1;
-        }
+        found += one_if(word(held, k, 0) == kind);
         k += 1;
     }
     found

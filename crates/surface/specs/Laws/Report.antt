@@ -3,7 +3,6 @@ use mathlib.Core.Path.{_≡_, refl, sym, ap, _∙_}
 use mathlib.Core.Bool.{Bool, true, false, cond, not}
 use mathlib.Core.List.{List, []}
 use Prim.Native.Nat.{ℕ, zero, suc, _+_, _*_, _/_, _%_, _≤_, _<_}
-use native.Mathlib.Numerals.{add-one}
 use native.Mathlib.Omega.{arith}
 use borrow.Author.Tests.{le-ltb, eq-eqb}
 use lib.Dec.{ltb, eqb}
@@ -13,36 +12,23 @@ use lib.Seq.{take-append-seam}
 use Rattle.shape.specs.Gather.{gather, any}
 use Rattle.shape.specs.Lists.{longer, uneven, meshFault}
 use Rattle.shape.specs.Refusal.{Fault, fine, fault, refuse, Answer, taken, refused, judge, leaves}
-use Rattle.shape.specs.Laws.Gather.{gather-even, gather-most}
+use Rattle.shape.specs.Laws.Gather.{gather-most}
 use Rattle.lookup.specs.Index.{indexWords, candidatesOf, buildOf, answerTo}
 use Rattle.lookup.specs.Demand3.{BuiltFrom}
 use Rattle.lookup.specs.Sampler.{Sample, hit, miss, sampleIn, topOf}
 use Rattle.lookup.specs.Laws.Limits.{judged}
 use Rattle.lookup.specs.Laws.Demand3.{top-taken, words-fit}
 use Rattle.surface.specs.File.{wordsOf, fileFault}
-use Rattle.surface.specs.Held.{howMany, isKind, countKind, placeIn, normalIn, cornersIn, verticesOf, normalsOf, indicesOf, laneOf}
+use Rattle.surface.specs.Held.{howMany, isKind, countKind, verticesOf, normalsOf, indicesOf, laneOf}
 use Rattle.surface.specs.Report.{meshIn, indexIn, sampleAt, lineOf, lineAt, answeredAt, linesOf, orRefused, reportOf}
 use Rattle.surface.specs.Laws.File.{words-length, whole-file}
+use Rattle.surface.specs.Laws.Held.{howMany-le, vertices-length, normals-length, indices-length}
 use Rattle.surface.specs.Laws.Text.{found-few, none-few, asked-few, refused-few}
 
--- ---- counts
-
-pub how-many-most : (f : ℕ → Bool) (n : ℕ) → howMany f n ≤ n
-unfolding howMany
-how-many-most f zero = omega arith
-how-many-most f (suc n) = go (f n) (how-many-most f n)
-  where
-    go : (b : Bool) → howMany f n ≤ n → howMany f n + cond b 1 0 ≤ suc n
-    go true h = omega arith
-    go false h = omega arith
-
-pub how-many-next : (f : ℕ → Bool) (n : ℕ) → howMany f (n + 1) ≡ howMany f n + cond (f n) 1 0
-unfolding howMany
-how-many-next f n = rw add-one
-
+-- a file of 16,384 words has 2,048 records
 pub kind-most : (ws : List ℕ) (kind : ℕ) → length ws ≤ 16384 → countKind ws kind ≤ 2048
 unfolding countKind
-kind-most ws kind h = omega (arith, how-many-most (isKind ws kind) (length ws / 8))
+kind-most ws kind h = omega (arith, howMany-le (isKind ws kind) (length ws / 8))
 
 -- ---- the length of the text
 
@@ -81,38 +67,14 @@ three : (n k : ℕ) → n ≡ 3 * k → n % 3 ≡ 0
 three n k e = omega arith
 
 module _ (ws : List ℕ) where
-  place-length : (i : ℕ) → length (placeIn ws i) ≡ 3
-  unfolding placeIn
-  place-length i = refl
-
-  normal-length : (i : ℕ) → length (normalIn ws i) ≡ 3
-  unfolding normalIn
-  normal-length i = refl
-
-  corners-length : (i : ℕ) → length (cornersIn ws i) ≡ 3
-  unfolding cornersIn
-  corners-length i = refl
-
-  pub vertices-length : length (verticesOf ws) ≡ 3 * countKind ws 1
-  unfolding verticesOf
-  vertices-length = gather-even (placeIn ws) 3 place-length (countKind ws 1)
-
-  pub normals-length : length (normalsOf ws) ≡ 3 * countKind ws 1
-  unfolding normalsOf
-  normals-length = gather-even (normalIn ws) 3 normal-length (countKind ws 1)
-
-  pub indices-length : length (indicesOf ws) ≡ 3 * countKind ws 2
-  unfolding indicesOf
-  indices-length = gather-even (cornersIn ws) 3 corners-length (countKind ws 2)
-
   -- it is never turned back: of the refusals of a file's text, 1 and 5 are the file's own and 3 is for its index
   pub mesh-fine : length ws ≤ 16384 → meshFault (meshIn ws) ≡ fine
   unfolding meshFault meshIn refuse longer uneven any
   mesh-fine h =
-      let v : length (verticesOf ws) ≤ 196608 = omega (arith, vertices-length, kind-most ws 1 h) in
-      let n : length (normalsOf ws) ≤ 196608 = omega (arith, normals-length, kind-most ws 1 h) in
-      let i : length (indicesOf ws) ≤ 196608 = omega (arith, indices-length, kind-most ws 2 h) in
-      rw (le-ltb 196608 (length (verticesOf ws)) v, le-ltb 196608 (length (normalsOf ws)) n, le-ltb 196608 (length (indicesOf ws)) i, eq-eqb (length (verticesOf ws) % 3) 0 (three _ _ vertices-length), eq-eqb (length (normalsOf ws) % 3) 0 (three _ _ normals-length))
+      let v : length (verticesOf ws) ≤ 196608 = omega (arith, vertices-length ws, kind-most ws 1 h) in
+      let n : length (normalsOf ws) ≤ 196608 = omega (arith, normals-length ws, kind-most ws 1 h) in
+      let i : length (indicesOf ws) ≤ 196608 = omega (arith, indices-length ws, kind-most ws 2 h) in
+      rw (le-ltb 196608 (length (verticesOf ws)) v, le-ltb 196608 (length (normalsOf ws)) n, le-ltb 196608 (length (indicesOf ws)) i, eq-eqb (length (verticesOf ws) % 3) 0 (three _ _ (vertices-length ws)), eq-eqb (length (normalsOf ws) % 3) 0 (three _ _ (normals-length ws)))
 
   pub build-fine : length ws ≤ 16384 → buildOf (meshIn ws) 16384 ≡ answerTo (indexIn ws) 16384
   unfolding buildOf judge meshIn indexIn

@@ -9,7 +9,8 @@ use Rattle.shape.specs.Memory.{Put}
 use Rattle.shape.specs.Laws.Memory.{put-none, put-length}
 use Rattle.surface.specs.Held.{howMany}
 use Rattle.surface.specs.Report.{lineAt, answeredAt}
-use Rattle.surface.specs.Laws.Report.{how-many-most, kind-most, lines-few}
+use Rattle.surface.specs.Laws.Held.{howMany-le}
+use Rattle.surface.specs.Laws.Report.{kind-most, lines-few}
 use Rattle.surface.proofs.Telling.{questions-are, next-line, next-count, last-line}
 use Rattle.surface.proofs.report.put_lines.Statement.{statement}
 use Rattle.surface.proofs.report.put_lines.Tie as tie
@@ -32,7 +33,7 @@ put-answer-requires c κs =
     let l = c .before .before .loop in
     let f = lines-few ws (l .k) in
     let n = kind-most ws 3 (s .pre .0 .few) in
-    (s .pre .0, (s .pre .1 .0, (omega (arith, questions-are (s .pre .0), c .before .loop-test .taken, n), omega (arith, questions-are (s .pre .0), c .before .loop-test .taken, n, f, l .inv .0 .ends, l .inv .3, s .pre .1 .1), omega (arith, questions-are (s .pre .0), c .before .loop-test .taken, n, l .inv .1, how-many-most (answeredAt ws) (l .k)))))
+    (s .pre .0, (s .pre .1 .0, (omega (arith, questions-are (s .pre .0), c .before .loop-test .taken, n), omega (arith, questions-are (s .pre .0), c .before .loop-test .taken, n, f, l .inv .0 .ends, l .inv .3, s .pre .1 .1), omega (arith, questions-are (s .pre .0), c .before .loop-test .taken, n, l .inv .1, howMany-le (answeredAt ws) (l .k)))))
 
 add-k : tie.Need-add-k Inv-loop μ-loop
 add-k c = omega (arith, c .before .before .before .before .before .loop .inv .2, c .before .before .before .before .loop-test .taken, questions-are (c .before .before .before .before .before .before .before .before .before .before .before .before .pre .0), kind-most (now (c .before .before .before .before .before .before .before .before .before .before .before .before .args .held)) 3 (c .before .before .before .before .before .before .before .before .before .before .before .before .pre .0 .few))
@@ -56,7 +57,7 @@ put-asked-requires c κs =
     let f = lines-few ws (l .k) in
     let n = kind-most ws 3 (s .pre .0 .few) in
     let q = questions-are (s .pre .0) in
-    (omega (arith, q, n, f, l .inv .0 .ends, l .inv .2, l .inv .3, s .pre .1 .1), omega (arith, q, n), omega (arith, q, n, l .inv .1, l .inv .2, how-many-most (answeredAt ws) (l .k)))
+    (omega (arith, q, n, f, l .inv .0 .ends, l .inv .2, l .inv .3, s .pre .1 .1), omega (arith, q, n), omega (arith, q, n, l .inv .1, l .inv .2, howMany-le (answeredAt ws) (l .k)))
 
 same-length : tie.Need-same-length Inv-loop μ-loop
 same-length c = omega (arith, put-length (c .before .before .put-asked .ensures), c .before .before .before .before .before .loop .inv .3)
