@@ -1,63 +1,51 @@
+-- `surface::report::put_mesh` meets its contract: what building answered picks the text. Assumes nothing.
+use mathlib.Core.Path.{_≡_}
+use Prim.Native.Nat.{ℕ, _<_}
+use native.Mathlib.Omega.{arith}
+use lib.ListN.{length-replicate}
+use Rattle.surface.proofs.Reporting.{built-refused, built-words, place-small, index-front, index-length, front-fits}
 use borrow.Author.Needs.{needs}
 use Rattle.surface.proofs.report.put_mesh.Statement.{statement}
 use Rattle.surface.proofs.report.put_mesh.Tie as tie
-use Rattle.surface.proofs.report.put_mesh.Reads as reads
-use Rattle.surface.proofs.report.put_mesh.Lts as lts
-use Rattle.lookup.proofs.grid.build.Reads as build-reads
-use Rattle.surface.proofs.report.put_lines.Reads as put-lines-reads
-use Rattle.surface.proofs.report.put_refusal.Reads as put-refusal-reads
 
--- src/report.rt:158:45
 slice-aggregate-build : tie.Need-slice-aggregate-build
 slice-aggregate-build c = search needs
 
--- src/report.rt:158:60
 slice-aggregate-build-2 : tie.Need-slice-aggregate-build-2
 slice-aggregate-build-2 c = search needs
 
--- src/report.rt:158:11
 build-requires : tie.Need-build-requires
 build-requires c κs = search needs
 
--- src/report.rt:159:24
 enum-known-r : tie.Need-enum-known-r
 enum-known-r c = search needs
 
--- src/report.rt:159:30
 put-refusal-requires : tie.Need-put-refusal-requires
-put-refusal-requires c κs = ?
+put-refusal-requires c κs = (omega (arith, c .before .before .before .before .before .before .before .before .before .before .before .before .before .pre .1), place-small (c .before .before .before .before .before .before .before .before .before .before .before .before .before .pre .0) _ (length-replicate {A = ℕ} 16384 0) (c .before .before .before .before .before .build .result) (c .before .before .before .before .before .build .ensures .0) (c .before .before .r .given .1))
 
--- src/report.rt:160:22
 enum-known-n : tie.Need-enum-known-n
 enum-known-n c = search needs
 
--- src/report.rt:160:79
 array-share-prefix-index : tie.Need-array-share-prefix-index
-array-share-prefix-index c = ?
+array-share-prefix-index c = front-fits _ _ (index-length (c .before .before .before .before .before .before .before .before .before .before .before .before .pre .0) _ (length-replicate {A = ℕ} 16384 0) (c .before .before .before .before .build .result) (c .before .before .before .before .build .ensures .0) (c .before .n .given .1) _ _ (c .before .before .before .before .build .ensures .1))
 
--- src/report.rt:160:79
 slice-aggregate-put-lines : tie.Need-slice-aggregate-put-lines
-slice-aggregate-put-lines c = ?
+slice-aggregate-put-lines c = index-length (c .before .before .before .before .before .before .before .before .before .before .before .before .before .pre .0) _ (length-replicate {A = ℕ} 16384 0) (c .before .before .before .before .before .build .result) (c .before .before .before .before .before .build .ensures .0) (c .before .before .n .given .1) _ _ (c .before .before .before .before .before .build .ensures .1)
 
--- src/report.rt:160:28
 put-lines-requires : tie.Need-put-lines-requires
-put-lines-requires c κs = ?
+put-lines-requires c κs = (c .before .before .before .before .before .before .before .before .before .before .before .before .before .before .pre .0, (index-front (c .before .before .before .before .before .before .before .before .before .before .before .before .before .before .pre .0) _ (length-replicate {A = ℕ} 16384 0) (c .before .before .before .before .before .before .build .result) (c .before .before .before .before .before .before .build .ensures .0) (c .before .before .before .n .given .1) _ _ (c .before .before .before .before .before .before .build .ensures .1), c .before .before .before .before .before .before .before .before .before .before .before .before .before .before .pre .1))
 
--- src/report.rt:145:1
 same-length : tie.Need-same-length
 same-length c = search needs
 
--- src/report.rt:145:1
 returns : tie.Need-returns
-returns c = ?
+returns c = rw (built-refused (c .before .before .before .before .before .before .before .before .before .before .before .before .before .before .before .before .pre .0) _ (length-replicate {A = ℕ} 16384 0) (c .before .before .before .before .before .before .before .before .build .result) (c .before .before .before .before .before .before .before .before .build .ensures .0) (c .before .before .before .before .before .r .given .1)) at (c .before .before .put-refusal .ensures)
 
--- src/report.rt:145:1
 same-length-2 : tie.Need-same-length-2
 same-length-2 c = search needs
 
--- src/report.rt:145:1
 returns-2 : tie.Need-returns-2
-returns-2 c = ?
+returns-2 c = rw (built-words (c .before .before .before .before .before .before .before .before .before .before .before .before .before .before .before .before .before .pre .0) _ (length-replicate {A = ℕ} 16384 0) (c .before .before .before .before .before .before .before .before .before .build .result) (c .before .before .before .before .before .before .before .before .before .build .ensures .0) (c .before .before .before .before .before .before .n .given .1)) at (c .before .before .put-lines .ensures)
 
 pub put-mesh-spec : {M : Type 1} → statement M
 put-mesh-spec =
