@@ -31,7 +31,7 @@ use Rattle.surface.specs.Text.{refusedLine}
 use Rattle.surface.specs.Report.{meshIn, indexIn, linesOf, orRefused, reportOf, reportAnswer}
 use Rattle.surface.specs.ReportSteps.{Unpacked, surfaceText}
 use Rattle.surface.specs.Laws.File.{words-length, whole-file, copied as copied-all}
-use Rattle.surface.specs.Laws.Report.{build-fine, report-fits}
+use Rattle.surface.specs.Laws.Report.{build-fine, size-refused, built-size, report-fits}
 use Rattle.surface.proofs.Copies.{said-short, said-copied}
 
 -- ---- the front of lent memory
@@ -54,22 +54,6 @@ module _ {A : Type 0} {before after xs : List A} {n : ℕ} (p : Put before after
   put-fits = omega (arith, put-length p)
 
 -- ---- building
-
-module _ (k room : ℕ) where
-  abbrev size : Bool → Bool → Answer ℕ
-  size a b = judge (refuse a 1 4194304 (refuse b 3 k fine)) (taken k)
-
-  size-taken : (a b : Bool) (n : ℕ) → taken n ≡ size a b → n ≡ k
-  unfolding judge refuse
-  size-taken true b n e = absurd (let z : _≡_ {A = ℕ} 0 1 = cc in omega arith)
-  size-taken false true n e = absurd (let z : _≡_ {A = ℕ} 0 1 = cc in omega arith)
-  size-taken false false n e = cc
-
-  size-refused : (a b : Bool) (x p : ℕ) → (a ≡ false → k ≤ 4194304) → refused x p ≡ size a b → p ≤ 4194304
-  unfolding judge refuse
-  size-refused true b x p h e = let w : p ≡ 4194304 = cc in omega arith
-  size-refused false true x p h e = let w : p ≡ k = cc in omega (arith, h refl)
-  size-refused false false x p h e = absurd (let z : _≡_ {A = ℕ} 0 1 = cc in omega arith)
 
 module _
     {ws : List ℕ}
@@ -99,15 +83,12 @@ module _
     place-small {r} z =
         let k = length (indexIn ws) in
         let q = (rw z at answer) ∙ build-fine ws (u .few) in
-        let h = size-refused k 16384 (ltb 4194304 k) (ltb 16384 k) (numberOf r) (placeOf r) (ltb-false 4194304 k) q in
+        let h = size-refused k (ltb 4194304 k) (ltb 16384 k) (numberOf r) (placeOf r) (ltb-false 4194304 k) q in
         omega (arith, h)
 
     words-are : {n : ℕ} → b ≡ built.Words n → n ≡ length (indexIn ws)
-    unfolding answerTo readBuilt
-    words-are {n} z =
-        let k = length (indexIn ws) in
-        let q = (rw z at answer) ∙ build-fine ws (u .few) in
-        size-taken k 16384 (ltb 4194304 k) (ltb 16384 k) n q
+    unfolding readBuilt
+    words-are z = built-size ws (u .few) (sym answer ∙ rw z)
 
     index-is : indexWords vs is ≡ indexIn ws
     unfolding indexIn

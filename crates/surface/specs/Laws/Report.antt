@@ -7,7 +7,7 @@ use native.Mathlib.Omega.{arith}
 use borrow.Author.Tests.{le-ltb, eq-eqb}
 use lib.Dec.{ltb, eqb}
 use lib.Ieee.{Float}
-use lib.ListN.{length, take, replicate, length-append, length-replicate}
+use lib.ListN.{length, take, drop, replicate, length-append, length-replicate}
 use lib.Seq.{take-append-seam}
 use Rattle.shape.specs.Gather.{gather, any}
 use Rattle.shape.specs.Lists.{longer, uneven, meshFault}
@@ -79,3 +79,53 @@ module _ (ws : List ℕ) where
   pub build-fine : length ws ≤ 16384 → buildOf (meshIn ws) 16384 ≡ answerTo (indexIn ws) 16384
   unfolding buildOf judge meshIn indexIn
   build-fine h = rw (mesh-fine h)
+
+-- ---- the lookups
+
+module _ (k : ℕ) where
+  -- what building answers to an index of k words that is past its limit or not, and past the room or not
+  abbrev pub size : Bool → Bool → Answer ℕ
+  size a b = judge (refuse a 1 4194304 (refuse b 3 k fine)) (taken k)
+
+  pub size-taken : (a b : Bool) (n : ℕ) → taken n ≡ size a b → n ≡ k
+  unfolding judge refuse
+  size-taken true b n e = absurd (let z : _≡_ {A = ℕ} 0 1 = cc in omega arith)
+  size-taken false true n e = absurd (let z : _≡_ {A = ℕ} 0 1 = cc in omega arith)
+  size-taken false false n e = cc
+
+  pub size-refused : (a b : Bool) (x p : ℕ) → (a ≡ false → k ≤ 4194304) → refused x p ≡ size a b → p ≤ 4194304
+  unfolding judge refuse
+  size-refused true b x p h e = let w : p ≡ 4194304 = cc in omega arith
+  size-refused false true x p h e = let w : p ≡ k = cc in omega (arith, h refl)
+  size-refused false false x p h e = absurd (let z : _≡_ {A = ℕ} 0 1 = cc in omega arith)
+
+module _ (ws : List ℕ) (few : length ws ≤ 16384) {n : ℕ} (t : buildOf (meshIn ws) 16384 ≡ taken n) where
+  pub built-size : n ≡ length (indexIn ws)
+  unfolding answerTo
+  built-size = let k = length (indexIn ws) in size-taken k (ltb 4194304 k) (ltb 16384 k) n (sym t ∙ build-fine ws few)
+
+  built-from : (before : List ℕ) → length before ≡ 16384 → BuiltFrom (meshIn ws) (indexIn ws)
+  unfolding leaves meshIn indexIn
+  built-from before e =
+      let took : buildOf (meshIn ws) (length before) ≡ taken n = rw e t in
+      record {
+        before = before;
+        size = n;
+        took = took;
+        kept = n;
+        enough = omega arith;
+        is = rw (took, built-size) (sym (take-append-seam (indexIn ws) (drop (length (indexIn ws)) before)));
+      }
+
+  whole : (before : List ℕ) (e : length before ≡ 16384) → built-from before e .kept ≡ built-from before e .size
+  unfolding built-from
+  whole before e = refl
+
+  -- where the index is built, no lookup in it is turned back: the candidates are the index's own, and the best of them is the answer
+  pub never-refused : (x y : Float) → topOf (meshIn ws) (indexIn ws) x y ≡ taken (sampleIn (meshIn ws) x y (candidatesOf (verticesOf ws) (indicesOf ws) x y))
+  unfolding meshIn
+  never-refused x y =
+      let o = replicate {A = ℕ} 16384 0 in
+      let e = length-replicate {A = ℕ} 16384 0 in
+      let b = built-from o e in
+      top-taken (meshIn ws) (indexIn ws) b x y (words-fit (meshIn ws) (indexIn ws) b (whole o e))

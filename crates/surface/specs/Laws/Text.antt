@@ -1,4 +1,5 @@
 -- How long a line can be. Assumes nothing.
+use mathlib.Core.Path.{_≡_, refl}
 use mathlib.Core.Bool.{Bool, true, false, cond}
 use mathlib.Core.List.{[], _∷_, _++_}
 use Prim.Native.Nat.{ℕ, zero, suc, _/_, _%_, _≤_}
@@ -17,6 +18,10 @@ digits-few (suc k) n = go (ltb n 10) (digits-few k (n / 10))
     go : (b : Bool) → length (digitsOf k (n / 10)) ≤ suc k → length (cond b (digit n ∷ []) (digitsOf k (n / 10) ++ digit (n % 10) ∷ [])) ≤ suc (suc k)
     go true h = omega arith
     go false h = rw length-append (omega arith)
+
+pub hex-eight : (w : ℕ) → length (hexadecimal w) ≡ 8
+unfolding hexadecimal
+hex-eight w = refl
 
 lane-few : (lane : ℕ) → length (laneText lane) ≤ 16
 unfolding laneText

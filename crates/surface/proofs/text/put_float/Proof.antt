@@ -1,7 +1,8 @@
 -- `surface::text::put_float` meets its contract. Assumes nothing.
 use native.Mathlib.Omega.{arith}
 use Rattle.shape.specs.Laws.Memory.{put-then}
-use Rattle.surface.specs.Text.{hexadecimal}
+use Rattle.rounding.specs.Stored.{storedOf}
+use Rattle.surface.specs.Laws.Text.{hex-eight}
 use borrow.Author.Needs.{needs}
 use Rattle.surface.proofs.text.put_float.Statement.{statement}
 use Rattle.surface.proofs.text.put_float.Tie as tie
@@ -19,11 +20,10 @@ same-length : tie.Need-same-length
 same-length c = search needs
 
 returns : tie.Need-returns
-unfolding hexadecimal
 returns c =
     let p = c .before .before .before .before .before .before .before .put-bytes .ensures in
     let q = rw (c .before .before .before .stored .ensures) at (c .before .before .put-hexadecimal .ensures) in
-    (put-then p q, omega (arith, p .ends, q .ends))
+    (put-then p q, omega (arith, p .ends, q .ends, hex-eight (storedOf (c .before .before .before .before .before .before .before .before .before .before .before .args .x))))
 
 pub put-float-spec : {M : Type 1} → statement M
 put-float-spec =
