@@ -4,7 +4,7 @@ use mathlib.Core.Bool.{Bool, true, false, cond, not}
 use mathlib.Core.List.{List, []}
 use Prim.Native.Nat.{ℕ, zero, suc, _+_, _*_, _/_, _%_, _≤_, _<_}
 use native.Mathlib.Omega.{arith}
-use borrow.Author.Tests.{le-ltb, eq-eqb}
+use borrow.Author.Tests.{ltb-false, le-ltb, eq-eqb}
 use lib.Dec.{ltb, eqb}
 use lib.Ieee.{Float}
 use lib.ListN.{length, take, drop, replicate, length-append, length-replicate}
@@ -18,10 +18,12 @@ use Rattle.lookup.specs.Demand3.{BuiltFrom}
 use Rattle.lookup.specs.Sampler.{Sample, hit, miss, sampleIn, topOf}
 use Rattle.lookup.specs.Laws.Limits.{judged}
 use Rattle.lookup.specs.Laws.Demand3.{top-taken, words-fit}
-use Rattle.surface.specs.File.{wordsOf, fileFault}
+use Rattle.surface.specs.declared.file.Copied.{Copied}
+use Rattle.surface.specs.declared.file.Copied.the-variants.{Count}
+use Rattle.surface.specs.File.{wordsOf, fileFault, copyOf, readCopied}
 use Rattle.surface.specs.Held.{howMany, isKind, countKind, verticesOf, normalsOf, indicesOf, laneOf}
-use Rattle.surface.specs.Report.{meshIn, indexIn, sampleAt, lineOf, lineAt, answeredAt, linesOf, orRefused, reportOf}
-use Rattle.surface.specs.Laws.File.{words-length, whole-file}
+use Rattle.surface.specs.Report.{meshIn, indexIn, sampleAt, lineOf, lineAt, answeredAt, linesOf, orRefused, reportOf, reportAnswer}
+use Rattle.surface.specs.Laws.File.{words-length, whole-file, copied}
 use Rattle.surface.specs.Laws.Held.{howMany-le, vertices-length, normals-length, indices-length}
 use Rattle.surface.specs.Laws.Text.{found-few, none-few, asked-few, refused-few}
 
@@ -60,6 +62,20 @@ report-fits bs = go (fileFault bs) (whole-file bs) (buildOf (meshIn (wordsOf bs)
     go fine h (taken n) = text-few (wordsOf bs) (omega (arith, h refl .1, words-length bs))
     go fine h (refused number place) = omega (arith, refused-few number place)
     go (fault number place) h a = omega (arith, refused-few number place)
+
+-- so that room for that many bytes is always enough
+pub report-taken : (bs : List ℕ) (room : ℕ) → 204834 ≤ room → reportAnswer bs room ≡ taken (length (reportOf bs))
+unfolding reportAnswer
+report-taken bs room h = copied (reportOf bs) room (omega (arith, report-fits bs))
+
+-- and what is counted lies within the room
+pub report-within : (bs : List ℕ) {r : Copied} {n : ℕ} (room : ℕ) → r ≡ Count n → readCopied r ≡ reportAnswer bs room → n ≤ room
+unfolding readCopied reportAnswer copyOf refuse judge
+report-within bs {r} {n} room e g = let k = length (reportOf bs) in go k (ltb room k) (ltb-false room k) (rw e at g)
+  where
+    go : (k : ℕ) (b : Bool) → (b ≡ false → k ≤ room) → taken n ≡ judge (refuse b 3 k fine) (taken k) → n ≤ room
+    go k true h q = absurd (let z : _≡_ {A = ℕ} 0 1 = cc in omega arith)
+    go k false h q = let w : n ≡ k = cc in omega (arith, h refl)
 
 -- ---- the mesh of a surface
 
