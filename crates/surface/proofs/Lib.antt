@@ -1,0 +1,5 @@
+-- Laws that the proofs of several functions cite.
+pub mod Copies
+mod Reporting
+mod Telling
+mod Texts

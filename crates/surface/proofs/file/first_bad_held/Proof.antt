@@ -1,0 +1,50 @@
+-- `surface::file::first_bad_held` meets its contract: no record before k is bad. Assumes nothing.
+use mathlib.Core.Path.{_≡_, refl, sym, ap, _∙_}
+use Prim.Native.Nat.{ℕ, _+_, _-_, _*_, _/_, _<_, _≤_}
+use denote.Ref.{now}
+use Rattle.surface.specs.File.{heldRecord}
+use Rattle.surface.specs.Laws.Records.{Passed, passed-none, passed-next, passed-bad, passed-all}
+use native.Mathlib.Omega.{arith}
+use Rattle.surface.proofs.file.first_bad_held.Statement.{statement}
+use Rattle.surface.proofs.file.first_bad_held.Tie as tie
+
+abbrev Inv-loop : tie.InvT-loop
+Inv-loop held n last₀ k₀ last k = Passed (heldRecord held) last k × (k ≤ n)
+
+abbrev μ-loop : tie.MeasureT-loop
+μ-loop held n last₀ k₀ last k = n - k
+
+loop-holds : tie.Need-loop-holds Inv-loop μ-loop
+loop-holds c = (passed-none _, omega arith)
+
+held-kind-requires : tie.Need-held-kind-requires Inv-loop μ-loop
+held-kind-requires c κs = omega arith
+
+returns : tie.Need-returns Inv-loop μ-loop
+returns c = let l = c .before .before .before .loop in passed-bad (heldRecord (now (c .before .before .before .before .before .args .held))) (l .last) (l .k) _ (l .inv .0) (c .before .held-kind .ensures) (c .before .before .before .before .before .args .n) (omega arith) (c .if1 .taken)
+
+add-k : tie.Need-add-k Inv-loop μ-loop
+add-k c = omega arith
+
+loop-less : tie.Need-loop-less Inv-loop μ-loop
+loop-less c = omega arith
+
+loop-again : tie.Need-loop-again Inv-loop μ-loop
+loop-again c = let l = c .before .before .before .loop in (passed-next (heldRecord (now (c .before .before .before .before .before .args .held))) (l .last) (l .k) _ (l .inv .0) (c .before .held-kind .ensures) (c .if1 .left), omega arith)
+
+returns-2 : tie.Need-returns-2 Inv-loop μ-loop
+returns-2 c = let l = c .before .loop in let e : l .k ≡ c .before .before .before .args .n = omega (arith, l .inv .1) in e ∙ passed-all (heldRecord (now (c .before .before .before .args .held))) (l .last) (c .before .before .before .args .n) (rw e at (l .inv .0))
+
+pub first-bad-held-spec : {M : Type 1} → statement M
+first-bad-held-spec =
+    tie.close
+    (tie.spec
+    Inv-loop
+    μ-loop
+    loop-holds
+    held-kind-requires
+    returns
+    add-k
+    loop-less
+    loop-again
+    returns-2)

@@ -1,0 +1,47 @@
+-- `surface::text::put_lane` meets its contract. Assumes nothing.
+use native.Mathlib.Omega.{arith}
+use Rattle.surface.proofs.Texts.{lane-none, lane-some}
+use borrow.Author.Needs.{needs}
+use Rattle.surface.proofs.text.put_lane.Statement.{statement}
+use Rattle.surface.proofs.text.put_lane.Tie as tie
+
+slice-aggregate-put-bytes : tie.Need-slice-aggregate-put-bytes
+slice-aggregate-put-bytes c = search needs
+
+put-bytes-requires : tie.Need-put-bytes-requires
+put-bytes-requires c κs = search needs
+
+same-length : tie.Need-same-length
+same-length c = search needs
+
+returns : tie.Need-returns
+returns c =
+    let p = c .before .before .put-bytes .ensures in
+    (lane-none (c .before .before .before .before .before .before .before .args .lane) (c .before .before .before .before .before .if1 .taken) p, omega (arith, p .ends))
+
+slice-aggregate-put-number : tie.Need-slice-aggregate-put-number
+slice-aggregate-put-number c = search needs
+
+put-number-requires : tie.Need-put-number-requires
+put-number-requires c κs = search needs
+
+same-length-2 : tie.Need-same-length-2
+same-length-2 c = search needs
+
+returns-2 : tie.Need-returns-2
+returns-2 c =
+    let p = c .before .before .put-number .ensures in
+    (lane-some (c .before .before .before .before .before .before .before .args .lane) (c .before .before .before .before .before .if1 .left) (p .0), omega (arith, p .1))
+
+pub put-lane-spec : {M : Type 1} → statement M
+put-lane-spec =
+    tie.close
+    (tie.spec
+    slice-aggregate-put-bytes
+    put-bytes-requires
+    same-length
+    returns
+    slice-aggregate-put-number
+    put-number-requires
+    same-length-2
+    returns-2)

@@ -1,0 +1,86 @@
+-- Document 01, "Surface file and `probe`": the mesh and the questions that held words stand for. Word 0 of a record is its kind: 1 vertex (words 1-3
+-- place, 4-6 normal), 2 triangle (1-3 vertices, 4 lane id), 3 question (1-2 x and y). "Floats by their bits." Definitions only. Assumes nothing.
+use mathlib.Core.Bool.{Bool, cond}
+use mathlib.Core.List.{List, [], _∷_}
+use Prim.Native.Nat.{ℕ, zero, suc, _+_, _/_}
+use lib.Dec.{eqb}
+use lib.Ieee.{Float, binary32, ofBits}
+use lib.ListN.{length}
+use Rattle.shape.specs.Gather.{gather}
+use Rattle.shape.specs.Lists.{wordOf}
+use Rattle.surface.specs.declared.held.Sizes.{Sizes}
+use Rattle.surface.specs.declared.held.Question.{Question}
+
+-- how many numbers below n the test holds of
+unfoldable pub howMany : (ℕ → Bool) → ℕ → ℕ
+howMany f zero = 0
+howMany f (suc n) = howMany f n + cond (f n) 1 0
+
+-- word j of record k
+abbrev pub word : List ℕ → ℕ → ℕ → ℕ
+word ws k j = wordOf 8 ws k j
+
+unfoldable pub isKind : List ℕ → ℕ → ℕ → Bool
+unfolding wordOf
+isKind ws kind k = eqb (word ws k 0) kind
+
+-- how many records are of a kind
+unfoldable pub countKind : List ℕ → ℕ → ℕ
+unfolding howMany isKind
+countKind ws kind = howMany (isKind ws kind) (length ws / 8)
+
+-- how many vertices, triangles and questions there are
+unfoldable pub sizesOf : List ℕ → Sizes
+unfolding countKind
+sizesOf ws = record { vertices = countKind ws 1; triangles = countKind ws 2; questions = countKind ws 3 }
+
+-- ---- "kinds never fall": the vertices are the first records, then come the triangles, then the questions
+
+unfoldable pub triangleRecord : List ℕ → ℕ → ℕ
+unfolding countKind
+triangleRecord ws t = countKind ws 1 + t
+
+unfoldable pub questionRecord : List ℕ → ℕ → ℕ
+unfolding countKind
+questionRecord ws k = countKind ws 1 + countKind ws 2 + k
+
+-- the single in word j of record k
+unfoldable pub singleIn : List ℕ → ℕ → ℕ → Float
+unfolding wordOf
+singleIn ws k j = ofBits binary32 (word ws k j)
+
+-- the place and the normal of vertex k, and the corners of triangle t
+unfoldable pub placeIn : List ℕ → ℕ → List Float
+unfolding singleIn
+placeIn ws k = singleIn ws k 1 ∷ singleIn ws k 2 ∷ singleIn ws k 3 ∷ []
+
+unfoldable pub normalIn : List ℕ → ℕ → List Float
+unfolding singleIn
+normalIn ws k = singleIn ws k 4 ∷ singleIn ws k 5 ∷ singleIn ws k 6 ∷ []
+
+unfoldable pub cornersIn : List ℕ → ℕ → List ℕ
+unfolding triangleRecord wordOf
+cornersIn ws t = word ws (triangleRecord ws t) 1 ∷ word ws (triangleRecord ws t) 2 ∷ word ws (triangleRecord ws t) 3 ∷ []
+
+-- the lists of the mesh, in threes
+unfoldable pub verticesOf : List ℕ → List Float
+unfolding gather placeIn countKind
+verticesOf ws = gather (placeIn ws) (countKind ws 1)
+
+unfoldable pub normalsOf : List ℕ → List Float
+unfolding gather normalIn countKind
+normalsOf ws = gather (normalIn ws) (countKind ws 1)
+
+unfoldable pub indicesOf : List ℕ → List ℕ
+unfolding gather cornersIn countKind
+indicesOf ws = gather (cornersIn ws) (countKind ws 2)
+
+-- the lane id of triangle t, 0 for none
+unfoldable pub laneOf : List ℕ → ℕ → ℕ
+unfolding triangleRecord wordOf
+laneOf ws t = word ws (triangleRecord ws t) 4
+
+-- question k
+unfoldable pub questionAt : List ℕ → ℕ → Question
+unfolding questionRecord singleIn
+questionAt ws k = record { x = singleIn ws (questionRecord ws k) 1; y = singleIn ws (questionRecord ws k) 2 }

@@ -1,0 +1,174 @@
+// The lines that `probe` prints, as bytes in lent memory. A writer answers where the next byte goes.
+ghost use mathlib.Core.Path.{_≡_};
+ghost use mathlib.Core.List.{[], _∷_, _++_};
+ghost use Prim.Native.Nat.{ℕ, suc, _+_, _<_, _≤_, _^_};
+ghost use lib.ListN.{length};
+ghost use Rattle.rounding.specs.Stored.{storedOf};
+ghost use Rattle.shape.specs.Memory.{Put};
+ghost use Rattle.shape.specs.Refusal.{numberOf, placeOf};
+ghost use Rattle.surface.specs.Text.{digit, digitsOf, decimal, hexDigit, hexadecimal, normalText, laneText, foundLine, noneLine, askedLine, refusedLine};
+use rounding::bits::stored;
+use shape::refusal::Refusal;
+use vector::coords::Vector;
+
+// Bytes as they are.
+pub fn put_bytes(out: &mut [u8], at: usize, bytes: &[u8]) -> usize
+    requires { ⌜ at + length (now bytes) ≤ length (now out) ⌝ }
+    ensures { λ r. ⌜ Put (now (out .entry)) (now (out .exit)) at (now (bytes .entry)) r ⌝ }
+{
+    let mut i: usize = 0;
+    while i < bytes.len() {
+        out[at + i] = bytes[i];
+        i += 1;
+    }
+    at + i
+}
+
+// ---- numbers
+
+fn put_digit(out: &mut [u8], at: usize, d: usize) -> usize
+    requires { ⌜ (at < length (now out)) × (d < 10) ⌝ }
+    ensures { λ r. ⌜ Put (now (out .entry)) (now (out .exit)) at (digit d ∷ []) r ⌝ }
+{
+    out[at] = (48 + d) as u8;
+    at + 1
+}
+
+// A number in decimal, with no leading zero: what comes before its last digit, if anything does, and
+// that digit.
+fn put_decimal(out: &mut [u8], at: usize, n: usize) -> usize
+    requires { ⌜ (at + 10 ≤ length (now out)) × (n < 10 ^ 10) ⌝ }
+    ensures { λ r. ⌜ ((k : ℕ) → n < 10 ^ suc k → Put (now (out .entry)) (now (out .exit)) at (digitsOf k n) r) ⌝ }
+{
+    if n < 10 {
+        return put_digit(out, at, n);
+    }
+    let next = put_decimal(out, at, n / 10);
+    put_digit(out, next, n % 10)
+}
+
+fn hex_digit(d: u32) -> u8
+    requires { ⌜ d < 16 ⌝ }
+    ensures { λ r. ⌜ r ≡ hexDigit d ⌝ }
+{
+    if d < 10 { (48 + d) as u8 } else { (87 + d) as u8 }
+}
+
+// A word in hexadecimal, in eight digits.
+fn put_hexadecimal(out: &mut [u8], at: usize, w: u32) -> usize
+    requires { ⌜ at + 8 ≤ length (now out) ⌝ }
+    ensures { λ r. ⌜ Put (now (out .entry)) (now (out .exit)) at (hexadecimal w) r ⌝ }
+{
+    out[at] = hex_digit(w / 0x1000_0000);
+    out[at + 1] = hex_digit(w / 0x100_0000 % 16);
+    out[at + 2] = hex_digit(w / 0x10_0000 % 16);
+    out[at + 3] = hex_digit(w / 0x1_0000 % 16);
+    out[at + 4] = hex_digit(w / 0x1000 % 16);
+    out[at + 5] = hex_digit(w / 0x100 % 16);
+    out[at + 6] = hex_digit(w / 0x10 % 16);
+    out[at + 7] = hex_digit(w % 16);
+    at + 8
+}
+
+// ---- a word and what comes after it
+
+fn put_number(out: &mut [u8], at: usize, word: &[u8], n: usize) -> usize
+    requires { ⌜ (at + length (now word) + 10 ≤ length (now out)) × (n < 2 ^ 32) ⌝ }
+    ensures { λ r. ⌜ Put (now (out .entry)) (now (out .exit)) at (now (word .entry) ++ decimal n) r ⌝ }
+    ensures { λ r. ⌜ r ≤ at + length (now (word .entry)) + 10 ⌝ }
+{
+    let next = put_bytes(out, at, word);
+    put_decimal(out, next, n)
+}
+
+// A float by its bits, as the index stores it.
+fn put_float(out: &mut [u8], at: usize, word: &[u8], x: f32) -> usize
+    requires { ⌜ at + length (now word) + 8 ≤ length (now out) ⌝ }
+    ensures { λ r. ⌜ Put (now (out .entry)) (now (out .exit)) at (now (word .entry) ++ hexadecimal (storedOf x)) r ⌝ }
+    ensures { λ r. ⌜ r ≡ at + length (now (word .entry)) + 8 ⌝ }
+{
+    let next = put_bytes(out, at, word);
+    put_hexadecimal(out, next, stored(x))
+}
+
+fn put_normal(out: &mut [u8], at: usize, n: Vector) -> usize
+    requires { ⌜ at + 34 ≤ length (now out) ⌝ }
+    ensures { λ r. ⌜ Put (now (out .entry)) (now (out .exit)) at (normalText n) r ⌝ }
+    ensures { λ r. ⌜ r ≡ at + 34 ⌝ }
+{
+    let at = put_float(out, at, b" normal ", n.x);
+    let at = put_float(out, at, b" ", n.y);
+    put_float(out, at, b" ", n.z)
+}
+
+// A lane by its id, 0 for none.
+fn put_lane(out: &mut [u8], at: usize, lane: usize) -> usize
+    requires { ⌜ (at + 16 ≤ length (now out)) × (lane < 2 ^ 32) ⌝ }
+    ensures { λ r. ⌜ Put (now (out .entry)) (now (out .exit)) at (laneText lane) r ⌝ }
+    ensures { λ r. ⌜ r ≤ at + 16 ⌝ }
+{
+    if lane == 0 {
+        return put_bytes(out, at, b" lane -");
+    }
+    put_number(out, at, b" lane ", lane)
+}
+
+// ---- lines
+
+// The answer to question k: height, normal, triangle and lane.
+pub fn put_found(
+    out: &mut [u8],
+    at: usize,
+    k: usize,
+    height: f32,
+    normal: Vector,
+    triangle: usize,
+    lane: usize,
+) -> usize
+    requires { ⌜ (at + 100 ≤ length (now out)) × (k < 2 ^ 32) × (triangle < 2 ^ 32) × (lane < 2 ^ 32) ⌝ }
+    ensures { λ r. ⌜ Put (now (out .entry)) (now (out .exit)) at (foundLine k height normal triangle lane) r ⌝ }
+    ensures { λ r. ⌜ r ≤ at + 100 ⌝ }
+{
+    let at = put_number(out, at, b"at ", k);
+    let at = put_float(out, at, b" height ", height);
+    let at = put_normal(out, at, normal);
+    let at = put_number(out, at, b" triangle ", triangle);
+    let at = put_lane(out, at, lane);
+    put_bytes(out, at, b"\n")
+}
+
+// That question k has no answer.
+pub fn put_none(out: &mut [u8], at: usize, k: usize) -> usize
+    requires { ⌜ (at + 100 ≤ length (now out)) × (k < 2 ^ 32) ⌝ }
+    ensures { λ r. ⌜ Put (now (out .entry)) (now (out .exit)) at (noneLine k) r ⌝ }
+    ensures { λ r. ⌜ r ≤ at + 100 ⌝ }
+{
+    let at = put_number(out, at, b"at ", k);
+    put_bytes(out, at, b" none\n")
+}
+
+// A line of two words, each with a number.
+fn put_pair(out: &mut [u8], at: usize, first: &[u8], n: usize, second: &[u8], m: usize) -> usize
+    requires { ⌜ (at + length (now first) + length (now second) + 21 ≤ length (now out)) × (n < 2 ^ 32) × (m < 2 ^ 32) ⌝ }
+    ensures { λ r. ⌜ Put (now (out .entry)) (now (out .exit)) at ((now (first .entry) ++ decimal n) ++ (now (second .entry) ++ decimal m) ++ 10 ∷ []) r ⌝ }
+{
+    let at = put_number(out, at, first, n);
+    let at = put_number(out, at, second, m);
+    put_bytes(out, at, b"\n")
+}
+
+// The last line.
+pub fn put_asked(out: &mut [u8], at: usize, asked: usize, found: usize) -> usize
+    requires { ⌜ (at + 34 ≤ length (now out)) × (asked < 2 ^ 32) × (found < 2 ^ 32) ⌝ }
+    ensures { λ r. ⌜ Put (now (out .entry)) (now (out .exit)) at (askedLine asked found) r ⌝ }
+{
+    put_pair(out, at, b"asked ", asked, b" found ", found)
+}
+
+// A refusal, by its number and place.
+pub fn put_refused(out: &mut [u8], at: usize, number: usize, place: usize) -> usize
+    requires { ⌜ (at + 34 ≤ length (now out)) × (number < 2 ^ 32) × (place < 2 ^ 32) ⌝ }
+    ensures { λ r. ⌜ Put (now (out .entry)) (now (out .exit)) at (refusedLine number place) r ⌝ }
+{
+    put_pair(out, at, b"refused ", number, b" at ", place)
+}
