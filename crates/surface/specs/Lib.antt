@@ -2,4 +2,5 @@
 pub mod File
 pub mod FileSteps
 pub mod Held
+pub mod FileExamples
 pub mod Laws

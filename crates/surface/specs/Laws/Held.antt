@@ -219,3 +219,18 @@ module _ (ws : List ℕ) where
     pub kinds : Ranked (kindAt ws) (length ws / 8) (countKind ws 1) (countKind ws 2) (countKind ws 3)
     unfolding countKind isKind
     kinds = ranked (kindAt ws) (length ws / 8) rising
+
+-- at most 2,048 records, and so at most 6,144 elements in each list
+pub record Few (s : Sizes) : Type 0 where
+  pub vertex-places : 3 * s .vertices ≤ 6144
+  pub triangle-corners : 3 * s .triangles ≤ 6144
+  pub at-most : s .questions ≤ 2048
+
+pub few : (ws : List ℕ) (s : Sizes) → length ws ≤ 16384 → s ≡ sizesOf ws → Few s
+few ws s h e =
+    let z = sized ws s e in
+    record {
+      vertex-places = omega (arith, z .vertices-few);
+      triangle-corners = omega (arith, z .triangles-few);
+      at-most = omega (arith, z .questions-few);
+    }
