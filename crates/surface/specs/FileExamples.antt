@@ -3,11 +3,9 @@ use mathlib.Core.Path.{_≡_, refl}
 use mathlib.Core.List.{List, [], _∷_, _++_}
 use Prim.Native.Nat.{ℕ}
 use lib.ListN.{set, take}
-use Rattle.shape.specs.Gather.{gather, any, least}
-use Rattle.shape.specs.Lists.{wordOf}
-use Rattle.shape.specs.Refusal.{fine, fault, refuse, taken, refused, judge}
-use Rattle.surface.specs.File.{wordAt, wordsOf, fourBytes, bytesOf, spareFrom, spareUsed, badRecord, kindBefore, badAt, recordFault, parts, heldRecord, fileRecord, heldFault, fileFault, copyOf, readOf, writeOf}
-use Rattle.surface.specs.Held.{howMany, isKind, countKind, triangleRecord, cornersIn, indicesOf, laneOf}
+use Rattle.shape.specs.Refusal.{fine, fault, taken, refused}
+use Rattle.surface.specs.File.{wordsOf, bytesOf, heldFault, readOf}
+use Rattle.surface.specs.Held.{indicesOf, laneOf}
 
 -- vertices (0,0,2) (4,0,2) (4,4,2) (0,4,2) with normals (0,0,1), triangles 0 1 2 and 0 2 3 of lane 5, questions (3,1) (9,9)
 abbrev vertex : ℕ → ℕ → List ℕ

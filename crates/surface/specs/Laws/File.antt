@@ -1,19 +1,19 @@
 -- Words and bytes are turned into each other without loss; and what `read` takes, `write` gives back, and the other way round. Assumes nothing.
 use mathlib.Core.Path.{_≡_, refl, sym, ap, _∙_, fun-ext}
-use mathlib.Core.Bool.{Bool, true, false, cond, not, _||_}
+use mathlib.Core.Bool.{Bool, true, false, cond}
 use mathlib.Core.List.{List, [], _∷_}
 use Prim.Native.Nat.{ℕ, zero, suc, _+_, _-_, _*_, _/_, _%_, _^_, _≤_, _<_, min}
 use native.Mathlib.Nat.{one-mul, add-zero, div-div-eq-div-mul, mod-eq-of-lt}
 use native.Mathlib.Decide.{decLt}
 use native.Mathlib.Omega.{arith}
-use borrow.Author.Tests.{ltb-true, ltb-false, lt-ltb, le-ltb}
-use lib.Dec.{ltb, eqb}
+use borrow.Author.Tests.{ltb-false, le-ltb}
+use lib.Dec.{ltb}
 use lib.ListN.{length, getD, take, drop, length-take, length-drop, List·getD-eq-default}
 use lib.Seq.{ext-getD, getD-take, getD-drop}
-use Rattle.shape.specs.Gather.{gather, any, least}
-use Rattle.shape.specs.Refusal.{Fault, fine, fault, refuse, Answer, taken, refused, judge}
+use Rattle.shape.specs.Gather.{gather, least}
+use Rattle.shape.specs.Refusal.{Fault, fine, fault, refuse, Answer, taken, judge}
 use Rattle.shape.specs.Laws.Gather.{gather-even, gather-at, or-left}
-use Rattle.surface.specs.File.{wordAt, wordsOf, fourBytes, bytesOf, badRecord, kindBefore, badAt, recordFault, parts, heldRecord, fileRecord, heldFault, fileFault, copyOf, readOf, writeOf}
+use Rattle.surface.specs.File.{wordAt, wordsOf, fourBytes, bytesOf, badRecord, badAt, recordFault, parts, heldRecord, fileRecord, heldFault, fileFault, copyOf, readOf, writeOf}
 
 -- every number of a list is below n, as the bytes and words of a slice are
 abbrev pub Below : ℕ → List ℕ → Type 0
