@@ -5,4 +5,5 @@ pub mod Held
 pub mod Text
 pub mod Report
 pub mod ReportSteps
+pub mod FileExamples
 pub mod Laws
