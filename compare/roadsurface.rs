@@ -209,6 +209,37 @@ fn asked(m: &Held, index: &[u32], c: &mut Case, out: &mut Vec<u32>) {
     out.extend(&records[..8 * n]);
 }
 
+fn verdict_case(c: &mut Case, out: &mut Vec<u32>) {
+    let m = Held::read(c);
+    out.extend(match validate(m.lent()).expect("taken") {
+        Verdict::Sound => [0; 4],
+        Verdict::Empty => [1, 0, 0, 0],
+        Verdict::NonFiniteVertex(v) => [2, v as u32, 0, 0],
+        Verdict::IndexOutOfRange { triangle, index, vertices } => [3, triangle as u32, index as u32, vertices as u32],
+        Verdict::DegenerateTriangle(t) => [4, t as u32, 0, 0],
+    });
+}
+
+// The text of a file; where the file is sound it is read and written too, and must come back.
+fn file_case(c: &mut Case, out: &mut Vec<u32>) {
+    let n = c.u() as usize;
+    let words: Vec<u32> = (0..n.div_ceil(4)).map(|_| c.u()).collect();
+    let mut bytes: Vec<u8> = words.iter().flat_map(|w| w.to_le_bytes()).collect();
+    bytes.truncate(n);
+    let (mut held, mut back) = (vec![0; 16_384], vec![0; 65_536]);
+    if let Ok(k) = surface_read(&bytes, &mut held) {
+        assert_eq!(&held[..k], &words[..]);
+        assert_eq!(surface_write(&held[..k], &mut back), Ok(n));
+        assert_eq!(&back[..n], &bytes[..]);
+    }
+    let mut text = vec![0; 204_834];
+    let k = report(&bytes, &mut text).expect("taken");
+    text.truncate(k);
+    out.push(k as u32);
+    text.resize(k.div_ceil(4) * 4, 0);
+    out.extend(text.chunks(4).map(|b| u32::from_le_bytes(b.try_into().unwrap())));
+}
+
 fn work(op: &str, c: &mut Case, out: &mut Vec<u32>) -> Result<(), Refusal> {
     match op {
         "elevation_height" => elevation(c, out, elevation_height),
@@ -218,6 +249,8 @@ fn work(op: &str, c: &mut Case, out: &mut Vec<u32>) -> Result<(), Refusal> {
         "junction_mesh" => return junction_case(c, out),
         "surface_mesh" => return lanes_case(c, out),
         "height_at" => plain_case(c, out),
+        "validate" => verdict_case(c, out),
+        "probes" => file_case(c, out),
         "sampler" => {
             let index = index_of(&Held::read(c));
             out.push(index.len() as u32);

@@ -20,9 +20,11 @@
  *                     its list, or a list with a part element at its end; place: the list's position in
  *                     the call, from 0, as numbered below
  *   RS_FOREIGN_INDEX  the index is not one of this mesh; place: its first unfit word, or its length
+ *   RS_BAD_RECORD     a record of a surface file is bad; place: the first such record, from 0
  *   RS_SHORT_OUTPUT   an output smaller than the result; place: the count wanted, in elements
  * An `answer` of too few words is RS_SHORT_OUTPUT, before everything else. Oversize results come after
- * what is ragged or foreign and before a short output.
+ * what is ragged or foreign and before a short output. A place that 32 bits do not hold is told as
+ * ffffffff; only rs_tops has one, for more than 2^29 points.
  *
  * Lists of records are words, floats in them by their bits:
  *   lane     10 words: id; start and end of its run of points, of tangents, of widths, of banks; default width
@@ -66,8 +68,21 @@ enum {
     RS_BUILD_INDEX_WORDS = 1,
     RS_TOP_WORDS = 8,
     RS_TOPS_WORDS = 1,
+    RS_VALIDATE_WORDS = 4,
+    RS_SURFACE_READ_WORDS = 1,
+    RS_SURFACE_WRITE_WORDS = 1,
+    RS_REPORT_WORDS = 1,
     /* words of `records` for each point of rs_tops */
     RS_RECORD_WORDS = 8
+};
+
+/* The verdicts of rs_validate. */
+enum {
+    RS_SOUND = 0,
+    RS_EMPTY = 1,
+    RS_NON_FINITE = 2,
+    RS_OUT_OF_RANGE = 3,
+    RS_DEGENERATE = 4
 };
 
 /* The refusal's number and place of a code. */
@@ -180,6 +195,33 @@ uint64_t rs_tops(
     const uint32_t *indices, size_t indices_count, const uint32_t *spans, size_t spans_count,
     const uint32_t *index, size_t index_count, const float *points, size_t points_count,
     uint32_t *records, size_t records_count, uint64_t *answer, size_t answer_count);
+
+/* The verdict on a mesh. Lists: as rs_height_at.
+ * answer: one of RS_SOUND, RS_EMPTY (no indices), RS_NON_FINITE, RS_OUT_OF_RANGE, RS_DEGENERATE (no area);
+ * then the vertex of RS_NON_FINITE, or the triangle of the last two; then, of RS_OUT_OF_RANGE, the index
+ * and the number of vertices that it is past; 0 for what is not told. */
+uint64_t rs_validate(
+    const float *vertices, size_t vertices_count, const float *normals, size_t normals_count,
+    const uint32_t *indices, size_t indices_count, const uint32_t *spans, size_t spans_count,
+    uint64_t *answer, size_t answer_count);
+
+/* A surface file's bytes as words, and back: records of eight words, little-endian in the file. A surface
+ * that is written and read is the same, and so is a file that is read and written.
+ * Refused: more than 2,048 records (RS_OVERSIZE, 2048); the first bad record (RS_BAD_RECORD).
+ * Written: held, or bytes. answer: how many elements. */
+uint64_t rs_surface_read(
+    const uint8_t *bytes, size_t bytes_count, uint32_t *held, size_t held_count,
+    uint64_t *answer, size_t answer_count);
+
+uint64_t rs_surface_write(
+    const uint32_t *held, size_t held_count, uint8_t *bytes, size_t bytes_count,
+    uint64_t *answer, size_t answer_count);
+
+/* The text that the program `probe` prints of a surface file; that of a bad file says so. The only
+ * refusal is a short output. It takes about 420 KB of stack. Written: text. answer: how many bytes. */
+uint64_t rs_report(
+    const uint8_t *bytes, size_t bytes_count, uint8_t *text, size_t text_count,
+    uint64_t *answer, size_t answer_count);
 
 #ifdef __cplusplus
 }

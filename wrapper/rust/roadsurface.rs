@@ -63,6 +63,23 @@ mod raw {
             index: *const u32, index_count: usize, points: *const f32, points_count: usize,
             records: *mut u32, records_count: usize, answer: *mut u64, answer_count: usize,
         ) -> u64;
+        pub fn rs_validate(
+            vertices: *const f32, vertices_count: usize, normals: *const f32, normals_count: usize,
+            indices: *const u32, indices_count: usize, spans: *const u32, spans_count: usize,
+            answer: *mut u64, answer_count: usize,
+        ) -> u64;
+        pub fn rs_surface_read(
+            bytes: *const u8, bytes_count: usize, held: *mut u32, held_count: usize,
+            answer: *mut u64, answer_count: usize,
+        ) -> u64;
+        pub fn rs_surface_write(
+            held: *const u32, held_count: usize, bytes: *mut u8, bytes_count: usize,
+            answer: *mut u64, answer_count: usize,
+        ) -> u64;
+        pub fn rs_report(
+            bytes: *const u8, bytes_count: usize, text: *mut u8, text_count: usize,
+            answer: *mut u64, answer_count: usize,
+        ) -> u64;
     }
 }
 
@@ -373,4 +390,63 @@ pub fn record(records: &[u32], k: usize) -> Result<Option<Sample>, Refusal> {
         return Err(Refusal::new(a[1] as u32, a[2] as u32));
     }
     Ok(sample(a))
+}
+
+/// What is wrong with a mesh, first of all.
+#[derive(Clone, Copy, Debug, PartialEq, Eq)]
+pub enum Verdict {
+    Sound,
+    Empty,
+    NonFiniteVertex(usize),
+    IndexOutOfRange { triangle: usize, index: usize, vertices: usize },
+    DegenerateTriangle(usize),
+}
+
+/// The verdict on a mesh.
+pub fn validate(m: Mesh) -> Result<Verdict, Refusal> {
+    let mut a = [0; 4];
+    let code = unsafe {
+        raw::rs_validate(
+            m.vertices.as_ptr(), m.vertices.len(), m.normals.as_ptr(), m.normals.len(),
+            m.indices.as_ptr(), m.indices.len(), m.spans.as_ptr(), m.spans.len(),
+            a.as_mut_ptr(), a.len(),
+        )
+    };
+    told(code, a).map(|a| {
+        let [kind, x, y, z] = a.map(|w| w as usize);
+        match kind {
+            0 => Verdict::Sound,
+            1 => Verdict::Empty,
+            2 => Verdict::NonFiniteVertex(x),
+            3 => Verdict::IndexOutOfRange { triangle: x, index: y, vertices: z },
+            _ => Verdict::DegenerateTriangle(x),
+        }
+    })
+}
+
+/// The words of a surface file: how many.
+pub fn surface_read(bytes: &[u8], held: &mut [u32]) -> Result<usize, Refusal> {
+    let mut a = [0; 1];
+    let code = unsafe {
+        raw::rs_surface_read(bytes.as_ptr(), bytes.len(), held.as_mut_ptr(), held.len(), a.as_mut_ptr(), a.len())
+    };
+    told(code, a).map(|a| a[0] as usize)
+}
+
+/// The bytes of a surface that is held in words: how many.
+pub fn surface_write(held: &[u32], bytes: &mut [u8]) -> Result<usize, Refusal> {
+    let mut a = [0; 1];
+    let code = unsafe {
+        raw::rs_surface_write(held.as_ptr(), held.len(), bytes.as_mut_ptr(), bytes.len(), a.as_mut_ptr(), a.len())
+    };
+    told(code, a).map(|a| a[0] as usize)
+}
+
+/// The text that `probe` prints of a surface file: how many bytes.
+pub fn report(bytes: &[u8], text: &mut [u8]) -> Result<usize, Refusal> {
+    let mut a = [0; 1];
+    let code = unsafe {
+        raw::rs_report(bytes.as_ptr(), bytes.len(), text.as_mut_ptr(), text.len(), a.as_mut_ptr(), a.len())
+    };
+    told(code, a).map(|a| a[0] as usize)
 }

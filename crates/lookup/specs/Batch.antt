@@ -17,35 +17,30 @@ use Rattle.lookup.specs.Sampler.{Sample, hit, miss, topFault, topOf}
 
 -- ---- the record of a point's answer
 
--- a count as a word of 32 bits; past the greatest word, that word
-unfoldable pub wordFor : ℕ → ℕ
-wordFor n = cond (ltb n 0x1_0000_0000) n 0xffff_ffff
-
 -- whether there is a lane, and its id
 unfoldable pub laneThere : Lane → ℕ
 laneThere (Id id) = 1
 laneThere None = 0
 
 unfoldable pub laneId : Lane → ℕ
-unfolding wordFor
-laneId (Id id) = wordFor id
+laneId (Id id) = id
 laneId None = 0
 
 -- found: 1, height, normal, triangle, whether there is a lane, lane; none: zeros; refused: 2, number, place. Floats by their bits, a NaN's as 7fc00000
 unfoldable pub recordOf : Answer Sample → List ℕ
-unfolding toBits wordFor laneThere laneId
+unfolding toBits laneThere laneId
 recordOf (taken (hit h n t l)) =
     1
     ∷ toBits binary32 h
     ∷ toBits binary32 (n .x)
     ∷ toBits binary32 (n .y)
     ∷ toBits binary32 (n .z)
-    ∷ wordFor t
+    ∷ t
     ∷ laneThere l
     ∷ laneId l
     ∷ []
 recordOf (taken miss) = 0 ∷ 0 ∷ 0 ∷ 0 ∷ 0 ∷ 0 ∷ 0 ∷ 0 ∷ []
-recordOf (refused number place) = 2 ∷ number ∷ wordFor place ∷ 0 ∷ 0 ∷ 0 ∷ 0 ∷ 0 ∷ []
+recordOf (refused number place) = 2 ∷ number ∷ place ∷ 0 ∷ 0 ∷ 0 ∷ 0 ∷ 0 ∷ []
 
 -- ---- the call: points are list 5, pairs x, y
 
@@ -77,3 +72,24 @@ unfoldable pub readSampling : Sampling → Answer ℕ
 unfolding numberOf placeOf
 readSampling (Count n) = taken n
 readSampling (Refused r) = refused (numberOf r) (placeOf r)
+
+-- ---- a step on the way, for the private functions: the record in words of 32 bits, each number past the greatest word cut to it. No answer has one
+-- (Laws/Batch, `uncut`)
+
+unfoldable pub wordFor : ℕ → ℕ
+wordFor n = cond (ltb n 0x1_0000_0000) n 0xffff_ffff
+
+unfoldable pub cutRecord : Answer Sample → List ℕ
+unfolding toBits wordFor laneThere laneId
+cutRecord (taken (hit h n t l)) =
+    1
+    ∷ toBits binary32 h
+    ∷ toBits binary32 (n .x)
+    ∷ toBits binary32 (n .y)
+    ∷ toBits binary32 (n .z)
+    ∷ wordFor t
+    ∷ laneThere l
+    ∷ wordFor (laneId l)
+    ∷ []
+cutRecord (taken miss) = 0 ∷ 0 ∷ 0 ∷ 0 ∷ 0 ∷ 0 ∷ 0 ∷ 0 ∷ []
+cutRecord (refused number place) = 2 ∷ number ∷ wordFor place ∷ 0 ∷ 0 ∷ 0 ∷ 0 ∷ 0 ∷ []

@@ -13,3 +13,4 @@ pub mod Spans
 pub mod Limits
 pub mod Lanes
 pub mod Demand3
+pub mod Batch

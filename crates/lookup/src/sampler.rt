@@ -8,7 +8,7 @@ ghost use Rattle.shape.specs.Refusal.{fine, found, numberOf, placeOf, leaves};
 ghost use Rattle.shape.specs.Lists.{meshLists};
 ghost use Rattle.shape.specs.Memory.{Put};
 ghost use Rattle.lookup.specs.Sampler.{EndsRise, pastOf, laneOf, topFault, readSampled, topOf};
-ghost use Rattle.lookup.specs.Batch.{wordFor, laneThere, laneId, recordOf, recordAt, recordsOf, topsOf, readSampling};
+ghost use Rattle.lookup.specs.Batch.{wordFor, laneThere, laneId, cutRecord, recordAt, recordsOf, topsOf, readSampling};
 use crate::grid::Consulted;
 use crate::grid::at;
 use crate::grid::consult;
@@ -166,7 +166,7 @@ pub enum Sampling {
     Refused(Refusal),
 }
 
-// A count as a word; past the greatest word, that word.
+// A number as a word; past the greatest word, that word. No answer has such a number.
 pub fn word(n: usize) -> u32
     ensures { λ r. ⌜ r ≡ wordFor n ⌝ }
 {
@@ -213,11 +213,11 @@ pub fn lane_there(l: Lane) -> u32
     }
 }
 
-pub fn lane_id(l: Lane) -> u32
+pub fn lane_id(l: Lane) -> usize
     ensures { λ r. ⌜ r ≡ laneId l ⌝ }
 {
     match l {
-        Lane::Id(id) => word(id),
+        Lane::Id(id) => id,
         Lane::None => 0,
     }
 }
@@ -252,7 +252,7 @@ fn put_eight(
 // The record of a point's answer, from `at` on.
 fn put_record(out: &mut [u32], at: usize, s: Sampled) -> usize
     requires { ⌜ at + 8 ≤ length (now out) ⌝ }
-    ensures { λ r. ⌜ Put (now (out .entry)) (now (out .exit)) at (recordOf (readSampled s)) r ⌝ }
+    ensures { λ r. ⌜ Put (now (out .entry)) (now (out .exit)) at (cutRecord (readSampled s)) r ⌝ }
 {
     match s {
         Sampled::Found(h, n, t, l) => put_eight(
@@ -265,7 +265,7 @@ fn put_record(out: &mut [u32], at: usize, s: Sampled) -> usize
             bits32(n.z),
             word(t),
             lane_there(l),
-            lane_id(l),
+            word(lane_id(l)),
         ),
         Sampled::None => put_eight(out, at, 0, 0, 0, 0, 0, 0, 0, 0),
         Sampled::Refused(r) => put_eight(out, at, 2, number(r), word(place(r)), 0, 0, 0, 0, 0),

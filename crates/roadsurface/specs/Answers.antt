@@ -16,6 +16,7 @@ use Rattle.shape.specs.declared.junction_areas.Outline.{Outline}
 use Rattle.shape.specs.declared.mesh.MeshCounts.{MeshCounts}
 use Rattle.shape.specs.Lists.{Mesh}
 use Rattle.shape.specs.Outline.{resultOf}
+use Rattle.shape.specs.Verdict.{Validity, sound, empty, nonFinite, outOfRange, degenerate}
 use Rattle.lookup.specs.Plain.{Lookup, gives, none, answerOf}
 use Rattle.lookup.specs.Sampler.{Sample}
 use Rattle.lookup.specs.Batch.{wordFor, recordOf}
@@ -85,6 +86,15 @@ lookupWords none = 0 ∷ 0 ∷ 0 ∷ 0 ∷ 0 ∷ 0 ∷ []
 unfoldable pub sampleWords : Sample → List ℕ
 unfolding recordOf
 sampleWords s = recordOf (taken s)
+
+-- the verdict's kind and its counts: 0 sound; 1 no indices; 2 a vertex that is not finite; 3 a triangle, its index that is past the vertices, and how many
+-- these are; 4 a triangle without area
+unfoldable pub verdictWords : Validity → List ℕ
+verdictWords sound = 0 ∷ 0 ∷ 0 ∷ 0 ∷ []
+verdictWords empty = 1 ∷ 0 ∷ 0 ∷ 0 ∷ []
+verdictWords (nonFinite vertex) = 2 ∷ vertex ∷ 0 ∷ 0 ∷ []
+verdictWords (outOfRange triangle index vertices) = 3 ∷ triangle ∷ index ∷ vertices ∷ []
+verdictWords (degenerate triangle) = 4 ∷ triangle ∷ 0 ∷ 0 ∷ []
 
 -- ---- what is lent as numbers
 

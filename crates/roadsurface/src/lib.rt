@@ -4,19 +4,23 @@
 // front of `answer`. Where that is too short for them the call is turned back before all else.
 ghost use mathlib.Core.Path.{_≡_};
 ghost use lib.ListN.{length};
-ghost use Rattle.shape.specs.Refusal.{leaves};
-ghost use Rattle.shape.specs.Lists.{meshLists};
+ghost use Rattle.shape.specs.Refusal.{judge, taken, leaves};
+ghost use Rattle.shape.specs.Lists.{meshLists, meshFault};
 ghost use Rattle.shape.specs.Elevation.{heightAnswer, heightAtAnswer};
 ghost use Rattle.shape.specs.Outline.{outlineAnswer};
 ghost use Rattle.shape.specs.Ears.{earsOf, earsAnswer};
 ghost use Rattle.shape.specs.JunctionMesh.{ground, groundAnswer, meshVertices, meshNormals, meshIndices};
 ghost use Rattle.shape.specs.SurfaceMesh.{given, meshOf, answerOf};
+ghost use Rattle.shape.specs.Verdict.{validityOf};
 ghost use Rattle.lookup.specs.Index.{indexWords, buildOf};
 ghost use Rattle.lookup.specs.Sampler.{topOf};
 ghost use Rattle.lookup.specs.Batch.{recordsOf, topsOf};
-ghost use Rattle.roadsurface.specs.Answers.{gridOf, gridIf, ringFloats, plainAnswer, lent, Told, spotWords, outlineWords, countWords, meshWords, lookupWords, sampleWords};
+ghost use Rattle.surface.specs.File.{wordsOf, bytesOf, readOf, writeOf};
+ghost use Rattle.surface.specs.Report.{reportOf, reportAnswer};
+ghost use Rattle.roadsurface.specs.Answers.{gridOf, gridIf, ringFloats, plainAnswer, lent, Told, spotWords, outlineWords, countWords, meshWords, lookupWords, sampleWords, verdictWords};
 use crate::tell::short;
 use crate::tell::tell_built;
+use crate::tell::tell_copied;
 use crate::tell::tell_ears;
 use crate::tell::tell_elevation;
 use crate::tell::tell_junction;
@@ -25,6 +29,7 @@ use crate::tell::tell_mesh;
 use crate::tell::tell_outline;
 use crate::tell::tell_sampled;
 use crate::tell::tell_sampling;
+use crate::tell::tell_verdict;
 use lookup::grid::build;
 use lookup::mesh::height_at;
 use lookup::sampler::top;
@@ -36,6 +41,10 @@ use shape::junction::JunctionGrid;
 use shape::junction::mesh;
 use shape::junction_areas;
 use shape::mesh::surface_mesh;
+use shape::validate::validate;
+use surface::file::read;
+use surface::file::write;
+use surface::report::report;
 
 mod tell;
 
@@ -306,4 +315,61 @@ pub extern "C" fn rs_tops(
     }
     let a = tops(vertices, normals, indices, spans, index, points, records);
     tell_sampling(answer, a)
+}
+
+// The verdict on a mesh: its kind and three counts.
+#[no_mangle]
+pub extern "C" fn rs_validate(
+    vertices: &[f32],
+    normals: &[f32],
+    indices: &[u32],
+    spans: &[u32],
+    answer: &mut [u64],
+) -> u64
+    ensures { λ r. ⌜ Told (lent 4 (now (answer .entry)) (judge (meshFault (meshLists (now (vertices .entry)) (now (normals .entry)) (now (indices .entry)) (now (spans .entry)))) (taken (validityOf (now (vertices .entry)) (now (indices .entry)))))) verdictWords (now (answer .entry)) (now (answer .exit)) r ⌝ }
+{
+    if answer.len() < 4 {
+        return short(4);
+    }
+    let a = validate(vertices, normals, indices, spans);
+    tell_verdict(answer, a)
+}
+
+// The words of a surface file: how many.
+#[no_mangle]
+pub extern "C" fn rs_surface_read(bytes: &[u8], held: &mut [u32], answer: &mut [u64]) -> u64
+    ensures { λ r. ⌜ Told (lent 1 (now (answer .entry)) (readOf (now (bytes .entry)) (length (now (held .entry))))) countWords (now (answer .entry)) (now (answer .exit)) r ⌝ }
+    ensures { λ _. ⌜ now (held .exit) ≡ leaves (lent 1 (now (answer .entry)) (readOf (now (bytes .entry)) (length (now (held .entry))))) (wordsOf (now (bytes .entry))) (now (held .entry)) ⌝ }
+{
+    if answer.len() < 1 {
+        return short(1);
+    }
+    let a = read(bytes, held);
+    tell_copied(answer, a)
+}
+
+// The bytes of a surface that is held in words: how many.
+#[no_mangle]
+pub extern "C" fn rs_surface_write(held: &[u32], bytes: &mut [u8], answer: &mut [u64]) -> u64
+    ensures { λ r. ⌜ Told (lent 1 (now (answer .entry)) (writeOf (now (held .entry)) (length (now (bytes .entry))))) countWords (now (answer .entry)) (now (answer .exit)) r ⌝ }
+    ensures { λ _. ⌜ now (bytes .exit) ≡ leaves (lent 1 (now (answer .entry)) (writeOf (now (held .entry)) (length (now (bytes .entry))))) (bytesOf (now (held .entry))) (now (bytes .entry)) ⌝ }
+{
+    if answer.len() < 1 {
+        return short(1);
+    }
+    let a = write(held, bytes);
+    tell_copied(answer, a)
+}
+
+// The text that `probe` prints of a surface file: how many bytes.
+#[no_mangle]
+pub extern "C" fn rs_report(bytes: &[u8], text: &mut [u8], answer: &mut [u64]) -> u64
+    ensures { λ r. ⌜ Told (lent 1 (now (answer .entry)) (reportAnswer (now (bytes .entry)) (length (now (text .entry))))) countWords (now (answer .entry)) (now (answer .exit)) r ⌝ }
+    ensures { λ _. ⌜ now (text .exit) ≡ leaves (lent 1 (now (answer .entry)) (reportAnswer (now (bytes .entry)) (length (now (text .entry))))) (reportOf (now (bytes .entry))) (now (text .entry)) ⌝ }
+{
+    if answer.len() < 1 {
+        return short(1);
+    }
+    let a = report(bytes, text);
+    tell_copied(answer, a)
 }

@@ -1,19 +1,22 @@
 // How an answer is told across the border: a code is returned, and the values stand in the answer slice.
 ghost use mathlib.Core.Path.{_≡_};
-ghost use mathlib.Core.List.{_++_};
+ghost use mathlib.Core.List.{[], _∷_, _++_};
 ghost use Prim.Native.Nat.{_<_, _≤_};
 ghost use lib.ListN.{length, drop, replicate};
+ghost use lib.Seq.{sets};
 ghost use Rattle.shape.specs.Refusal.{numberOf, placeOf};
 ghost use Rattle.shape.specs.Elevation.{answered};
 ghost use Rattle.shape.specs.Outline.{readOutline};
 ghost use Rattle.shape.specs.Ears.{readEars};
 ghost use Rattle.shape.specs.JunctionMesh.{readGround};
 ghost use Rattle.shape.specs.SurfaceMesh.{readMesh};
+ghost use Rattle.shape.specs.Verdict.{readVerdict};
 ghost use Rattle.lookup.specs.Plain.{readAnswer};
 ghost use Rattle.lookup.specs.Index.{readBuilt};
 ghost use Rattle.lookup.specs.Sampler.{readSampled};
 ghost use Rattle.lookup.specs.Batch.{readSampling};
-ghost use Rattle.roadsurface.specs.Answers.{codeFor, Told, bitOf, spotWords, outlineWords, countWords, meshWords, lookupWords, sampleWords};
+ghost use Rattle.surface.specs.File.{readCopied};
+ghost use Rattle.roadsurface.specs.Answers.{codeFor, Told, bitOf, spotWords, outlineWords, countWords, meshWords, lookupWords, sampleWords, verdictWords};
 use lookup::grid::Built;
 use lookup::mesh::Answer;
 use lookup::sampler::Sampled;
@@ -31,6 +34,8 @@ use shape::junction::JunctionAnswer;
 use shape::junction_areas::OutlineAnswer;
 use shape::mesh::MeshAnswer;
 use shape::refusal::Refusal;
+use shape::validate::Verdict;
+use surface::file::Copied;
 
 // A word of 32 bits as one of 64.
 fn wide(x: u32) -> u64
@@ -196,9 +201,9 @@ pub fn tell_sampled(answer: &mut [u64], a: Sampled) -> u64
             answer[2] = wide(bits32(n.x));
             answer[3] = wide(bits32(n.y));
             answer[4] = wide(bits32(n.z));
-            answer[5] = wide(word(t));
+            answer[5] = t as u64;
             answer[6] = wide(lane_there(l));
-            answer[7] = wide(lane_id(l));
+            answer[7] = lane_id(l) as u64;
             0
         }
         Sampled::None => {
@@ -219,5 +224,44 @@ pub fn tell_sampling(answer: &mut [u64], a: Sampling) -> u64
             0
         }
         Sampling::Refused(r) => code(r),
+    }
+}
+
+// Four words at the front, and the code of a call that is taken.
+fn put_four(answer: &mut [u64], kind: u64, a: usize, b: usize, c: usize) -> u64
+    requires { ⌜ 4 ≤ length (now answer) ⌝ }
+    ensures { λ r. ⌜ (r ≡ 0) × (now (answer .exit) ≡ sets (now (answer .entry)) 0 (kind ∷ a ∷ b ∷ c ∷ [])) ⌝ }
+{
+    answer[0] = kind;
+    answer[1] = a as u64;
+    answer[2] = b as u64;
+    answer[3] = c as u64;
+    0
+}
+
+pub fn tell_verdict(answer: &mut [u64], a: Verdict) -> u64
+    requires { ⌜ 4 ≤ length (now answer) ⌝ }
+    ensures { λ r. ⌜ Told (readVerdict a) verdictWords (now (answer .entry)) (now (answer .exit)) r ⌝ }
+{
+    match a {
+        Verdict::Sound => put_four(answer, 0, 0, 0, 0),
+        Verdict::Empty => put_four(answer, 1, 0, 0, 0),
+        Verdict::NonFiniteVertex(v) => put_four(answer, 2, v, 0, 0),
+        Verdict::IndexOutOfRange(t, i, n) => put_four(answer, 3, t, i, n),
+        Verdict::DegenerateTriangle(t) => put_four(answer, 4, t, 0, 0),
+        Verdict::Refused(r) => code(r),
+    }
+}
+
+pub fn tell_copied(answer: &mut [u64], a: Copied) -> u64
+    requires { ⌜ 1 ≤ length (now answer) ⌝ }
+    ensures { λ r. ⌜ Told (readCopied a) countWords (now (answer .entry)) (now (answer .exit)) r ⌝ }
+{
+    match a {
+        Copied::Count(n) => {
+            answer[0] = n as u64;
+            0
+        }
+        Copied::Refused(r) => code(r),
     }
 }

@@ -136,6 +136,17 @@ mesh-in-order m ws e =
     mesh-split m
     ∙ without (longer 3 65536 (m .vertices)) (longer 3 65536 (m .normals)) (longer 1 196608 (m .indices)) (longer 5 1024 (m .spans)) (longer 1 4194304 ws) (meshRagged m) e
 
+-- and the index is within its limit
+pub index-in-order : (m : Mesh) (ws : List ℕ) → topFault m ws ≡ fine → length ws ≤ 4194304
+unfolding topFault meshLimits longer refuse
+index-in-order m ws e =
+    let p = passed (longer 3 65536 (m .vertices)) _ _ _ e in
+    let q = passed (longer 3 65536 (m .normals)) _ _ _ (p .1) in
+    let r = passed (longer 1 196608 (m .indices)) _ _ _ (q .1) in
+    let s = passed (longer 5 1024 (m .spans)) _ _ _ (r .1) in
+    let t = passed (longer 1 4194304 ws) _ _ _ (s .1) in
+    ltb-false 4194304 (length ws) (t .0)
+
 -- its lists are within the limits, and no span's run of indices ends before the last one's
 pub record InOrder (m : Mesh) : Type 0 where
   pub indices : length (m .indices) ≤ 196608

@@ -7,19 +7,16 @@ use Rattle.lookup.proofs.sampler.lane_id.Tie as tie
 enum-known-l : tie.Need-enum-known-l
 enum-known-l c = search needs
 
-word-requires : tie.Need-word-requires
-word-requires c κs = search needs
-
 enum-told : tie.Need-enum-told
 enum-told c = search needs
 
 returns : tie.Need-returns
 unfolding laneId
-returns c = rw (c .before .before .l .given .1) (c .word .ensures)
+returns c = rw (c .before .l .given .1)
 
 returns-2 : tie.Need-returns-2
 unfolding laneId
 returns-2 c = rw (c .enum-told .given .1)
 
 pub lane-id-spec : {M : Type 1} → statement M
-lane-id-spec = tie.close (tie.spec enum-known-l word-requires enum-told returns returns-2)
+lane-id-spec = tie.close (tie.spec enum-known-l enum-told returns returns-2)

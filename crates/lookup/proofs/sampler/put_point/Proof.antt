@@ -1,5 +1,8 @@
--- `lookup::sampler::put_point` meets its contract: the answer there is `sample`'s. Assumes nothing.
+-- `lookup::sampler::put_point` meets its contract: the answer there is `sample`'s, and no number of it is cut. Assumes nothing.
+use Rattle.shape.specs.Lists.{meshLists}
 use Rattle.lookup.specs.Batch.{recordAt}
+use Rattle.lookup.specs.Laws.Batch.{uncut}
+use native.Mathlib.Omega.{arith}
 use borrow.Author.Needs.{needs}
 use Rattle.lookup.proofs.sampler.put_point.Statement.{statement}
 use Rattle.lookup.proofs.sampler.put_point.Tie as tie
@@ -36,7 +39,7 @@ same-length c = search needs
 
 returns : tie.Need-returns
 unfolding recordAt
-returns c = rw (← c .before .before .before .before .sample .ensures) (c .before .before .put-record .ensures)
+returns c = rw (← uncut (meshLists (c .before .before .before .before .before .before .before .before .before .before .before .before .before .before .args .vertices .now) (c .before .before .before .before .before .before .before .before .before .before .before .before .before .before .args .normals .now) (c .before .before .before .before .before .before .before .before .before .before .before .before .before .before .args .indices .now) (c .before .before .before .before .before .before .before .before .before .before .before .before .before .before .args .spans .now)) _ _ _ (c .before .before .before .before .before .before .before .before .before .before .before .before .before .before .pre .0) (λ i. omega (arith, c .before .before .before .before .before .before .before .before .before .before .shared-slice-known4 .given i)), ← c .before .before .before .before .sample .ensures) (c .before .before .put-record .ensures)
 
 pub put-point-spec : {M : Type 1} → statement M
 put-point-spec =
