@@ -15,6 +15,9 @@ module _ {A : Type 0} (values : A → List ℕ) where
   unfolding codeOf wordsAfter
   told-taken a before after h e = record { returned = refl; answer = e ∙ sets-front (values a) before h }
 
+  pub told-put : (a : A) (before : List ℕ) {after : List ℕ} {code : ℕ} → length (values a) ≤ length before → (code ≡ 0) × (after ≡ sets before 0 (values a)) → Told (taken a) values before after code
+  told-put a before {after} h e = rw (e .0) (told-taken a before after h (e .1))
+
   -- the values are zeros
   pub told-cleared : (a : A) (n : ℕ) (before after : List ℕ) → values a ≡ replicate n 0 → after ≡ replicate n 0 ++ drop n before → Told (taken a) values before after 0
   unfolding codeOf wordsAfter

@@ -1,39 +1,30 @@
+-- `roadsurface::rs_report` meets its contract: what is told is the inner call's answer. Assumes nothing.
+use Rattle.roadsurface.specs.Answers.{countWords}
+use Rattle.roadsurface.proofs.Telling.{leaves-lent, leaves-short, told-lent, told-short}
 use borrow.Author.Needs.{needs}
 use Rattle.roadsurface.proofs.rs_report.Statement.{statement}
 use Rattle.roadsurface.proofs.rs_report.Tie as tie
-use Rattle.roadsurface.proofs.rs_report.Reads as reads
-use Rattle.roadsurface.proofs.rs_report.Lts as lts
-use Rattle.roadsurface.proofs.tell.short.Reads as short-reads
-use Rattle.roadsurface.proofs.tell.tell_copied.Reads as tell-copied-reads
-use Rattle.surface.proofs.report.report.Reads as report-reads
 
--- src/lib.rt:371:9
 short-requires : tie.Need-short-requires
 short-requires c κs = search needs
 
--- src/lib.rt:371:9
 returns : tie.Need-returns
-returns c = ?
+returns c = (told-short countWords 1 _ _ (c .before .if1 .taken) (c .short .ensures), leaves-short 1 _ _ (c .before .if1 .taken) _ _)
 
--- src/lib.rt:373:9
 report-requires : tie.Need-report-requires
 report-requires c κs = search needs
 
--- src/lib.rt:374:5
 tell-copied-requires : tie.Need-tell-copied-requires
 tell-copied-requires c κs = search needs
 
--- src/lib.rt:365:1
 same-length : tie.Need-same-length
 same-length c = search needs
 
--- src/lib.rt:365:1
 same-length-2 : tie.Need-same-length-2
 same-length-2 c = search needs
 
--- src/lib.rt:365:1
 returns-2 : tie.Need-returns-2
-returns-2 c = ?
+returns-2 c = (told-lent countWords 1 _ _ (c .before .before .before .before .before .before .before .before .if1 .left) (c .before .before .before .before .before .before .report .ensures .0) (c .before .before .tell-copied .ensures), leaves-lent 1 _ _ (c .before .before .before .before .before .before .before .before .if1 .left) _ _ (c .before .before .before .before .before .before .report .ensures .1))
 
 pub rs-report-spec : {M : Type 1} → statement M
 rs-report-spec =

@@ -1,37 +1,36 @@
+-- `roadsurface::tell::tell_copied` meets its contract, case by case. Assumes nothing.
+use mathlib.Core.Path.{refl}
+use native.Mathlib.Omega.{arith}
+use lib.ListN.{length-set}
+use Rattle.surface.specs.File.{readCopied}
+use Rattle.roadsurface.specs.Answers.{countWords}
+use Rattle.roadsurface.proofs.Telling.{told-refused, told-taken}
 use borrow.Author.Needs.{needs}
 use Rattle.roadsurface.proofs.tell.tell_copied.Statement.{statement}
 use Rattle.roadsurface.proofs.tell.tell_copied.Tie as tie
-use Rattle.roadsurface.proofs.tell.tell_copied.Reads as reads
-use Rattle.roadsurface.proofs.tell.tell_copied.Lts as lts
-use Rattle.roadsurface.proofs.tell.code.Reads as code-reads
 
--- src/tell.rt:261:23
 enum-known-a : tie.Need-enum-known-a
 enum-known-a c = search needs
 
--- src/tell.rt:262:13
 slice-write-answer : tie.Need-slice-write-answer
 slice-write-answer c = search needs
 
--- src/tell.rt:265:25
 enum-known-a-2 : tie.Need-enum-known-a-2
 enum-known-a-2 c = search needs
 
--- src/tell.rt:265:31
 code-requires : tie.Need-code-requires
 code-requires c κs = search needs
 
--- src/tell.rt:256:1
 same-length : tie.Need-same-length
 same-length c = search needs
 
--- src/tell.rt:256:1
 returns : tie.Need-returns
-returns c = ?
+unfolding readCopied
+returns c = rw (c .before .a .given .1) (told-taken countWords _ _ _ (omega (arith, c .before .before .before .before .pre)) refl)
 
--- src/tell.rt:256:1
 returns-2 : tie.Need-returns-2
-returns-2 c = ?
+unfolding readCopied
+returns-2 c = rw (c .before .before .a2 .given .1) (told-refused countWords _ (c .code .ensures))
 
 pub tell-copied-spec : {M : Type 1} → statement M
 tell-copied-spec =

@@ -52,32 +52,23 @@ wide-requires-4 c κs = search needs
 slice-write-answer-5 : tie.Need-slice-write-answer-5
 slice-write-answer-5 c = simp length-set (omega (arith, c .before .before .before .before .before .before .before .before .before .before .before .before .pre))
 
-word-requires : tie.Need-word-requires
-word-requires c κs = search needs
-
-wide-requires-5 : tie.Need-wide-requires-5
-wide-requires-5 c κs = search needs
-
 slice-write-answer-6 : tie.Need-slice-write-answer-6
-slice-write-answer-6 c = simp length-set (omega (arith, c .before .before .before .before .before .before .before .before .before .before .before .before .before .before .pre))
+slice-write-answer-6 c = simp length-set (omega (arith, c .before .before .before .before .before .before .before .before .before .before .before .before .pre))
 
 lane-there-requires : tie.Need-lane-there-requires
 lane-there-requires c κs = search needs
 
-wide-requires-6 : tie.Need-wide-requires-6
-wide-requires-6 c κs = search needs
+wide-requires-5 : tie.Need-wide-requires-5
+wide-requires-5 c κs = search needs
 
 slice-write-answer-7 : tie.Need-slice-write-answer-7
-slice-write-answer-7 c = simp length-set (omega (arith, c .before .before .before .before .before .before .before .before .before .before .before .before .before .before .before .before .pre))
+slice-write-answer-7 c = simp length-set (omega (arith, c .before .before .before .before .before .before .before .before .before .before .before .before .before .before .pre))
 
 lane-id-requires : tie.Need-lane-id-requires
 lane-id-requires c κs = search needs
 
-wide-requires-7 : tie.Need-wide-requires-7
-wide-requires-7 c κs = search needs
-
 slice-write-answer-8 : tie.Need-slice-write-answer-8
-slice-write-answer-8 c = simp length-set (omega (arith, c .before .before .before .before .before .before .before .before .before .before .before .before .before .before .before .before .before .before .pre))
+slice-write-answer-8 c = simp length-set (omega (arith, c .before .before .before .before .before .before .before .before .before .before .before .before .before .before .before .pre))
 
 enum-told : tie.Need-enum-told
 enum-told c = search needs
@@ -96,7 +87,7 @@ same-length c = simp length-set
 
 returns : tie.Need-returns
 unfolding readSampled sampleWords recordOf
-returns c = rw (c .before .before .before .before .before .before .before .before .before .before .before .before .before .before .before .a .given .1) (told-taken sampleWords _ _ _ (omega (arith, c .before .before .before .before .before .before .before .before .before .before .before .before .before .before .before .before .before .before .pre)) (rw (c .before .before .before .before .before .before .before .before .before .before .before .before .wide .ensures, c .before .before .before .before .before .before .before .before .before .before .before .before .before .bits32 .ensures, c .before .before .before .before .before .before .before .before .before .before .wide2 .ensures, c .before .before .before .before .before .before .before .before .before .before .before .bits322 .ensures, c .before .before .before .before .before .before .before .before .wide3 .ensures, c .before .before .before .before .before .before .before .before .before .bits323 .ensures, c .before .before .before .before .before .before .wide4 .ensures, c .before .before .before .before .before .before .before .bits324 .ensures, c .before .before .before .before .wide5 .ensures, c .before .before .before .before .before .word .ensures, c .before .before .wide6 .ensures, c .before .before .before .lane-there .ensures, c .wide7 .ensures, c .before .lane-id .ensures)))
+returns c = rw (c .before .before .before .before .before .before .before .before .before .before .before .before .a .given .1) (told-taken sampleWords _ _ _ (omega (arith, c .before .before .before .before .before .before .before .before .before .before .before .before .before .before .before .pre)) (rw (c .before .before .before .before .before .before .before .before .before .wide .ensures, c .before .before .before .before .before .before .before .before .before .before .bits32 .ensures, c .before .before .before .before .before .before .before .wide2 .ensures, c .before .before .before .before .before .before .before .before .bits322 .ensures, c .before .before .before .before .before .wide3 .ensures, c .before .before .before .before .before .before .bits323 .ensures, c .before .before .before .wide4 .ensures, c .before .before .before .before .bits324 .ensures, c .before .wide5 .ensures, c .before .before .lane-there .ensures, c .lane-id .ensures)))
 
 same-length-2 : tie.Need-same-length-2
 same-length-2 c = search needs
@@ -127,14 +118,11 @@ tell-sampled-spec =
     bits32-requires-4
     wide-requires-4
     slice-write-answer-5
-    word-requires
-    wide-requires-5
     slice-write-answer-6
     lane-there-requires
-    wide-requires-6
+    wide-requires-5
     slice-write-answer-7
     lane-id-requires
-    wide-requires-7
     slice-write-answer-8
     enum-told
     clear-requires
