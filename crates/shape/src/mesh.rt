@@ -1,6 +1,6 @@
 // The strips of lanes, merged into one mesh (`RoadNetwork::surface_mesh`).
 ghost use mathlib.Core.Path.{_≡_};
-ghost use mathlib.Core.Bool.{cond, false, _&&_};
+ghost use mathlib.Core.Bool.{cond, true, false, _&&_};
 ghost use mathlib.Core.List.{List, [], _∷_};
 ghost use Prim.Native.Nat.{ℕ, min, _^_, _+_, _-_, _*_, _/_, _<_, _≤_};
 ghost use lib.Ieee.{Float, lt};
@@ -29,7 +29,8 @@ ghost use Rattle.shape.specs.Strip.{
   slopeOf,
   lateralOf,
   halfOf,
-  eatOf,
+  eatSquareOf,
+  Mild,
   turnsLeft,
   spreadOf,
   ribAt,
@@ -178,10 +179,10 @@ fn weld(points: &[f32], kept: &mut [u32]) -> usize
 
 // ---- ribs
 
-// From one kept point to the next: the direction on the ground, and the length.
+// From one kept point to the next: the direction on the ground, and the square of the length.
 struct Leg {
     way: Vector,
-    length: f32,
+    square: f32,
 }
 
 // How far the two vertices of a rib lie from the kept point.
@@ -215,7 +216,7 @@ fn leg_between(a: Point, b: Point) -> Leg
     let d = b.sub(a);
     Leg {
         way: horizontal(d).normalize_or_zero(),
-        length: d.length(),
+        square: d.length_squared(),
     }
 }
 
@@ -224,7 +225,7 @@ fn no_leg() -> Leg
 {
     Leg {
         way: Vector::ZERO,
-        length: 0.0,
+        square: 0.0,
     }
 }
 
@@ -306,12 +307,12 @@ fn half_at(widths: &[f32], k: usize, width: f32) -> f32
     single_or(widths, k, width) * 0.5
 }
 
-// The sine of half the turn: how much of a leg an offset of 1 eats.
-fn eat(inc: Vector, out: Vector) -> f32
-    ensures { λ r. ⌜ r ≡ eatOf inc out ⌝ }
+// The sine of half the turn, squared. The sine is how much of a leg an offset of 1 eats.
+fn eat_square(inc: Vector, out: Vector) -> f32
+    ensures { λ r. ⌜ r ≡ eatSquareOf inc out ⌝ }
 {
     let cos_turn = clamp32(inc.dot(out), -1.0, 1.0);
-    sqrt32(max32((1.0 - cos_turn) * 0.5, 0.0))
+    max32((1.0 - cos_turn) * 0.5, 0.0)
 }
 
 fn turns_left(inc: Vector, out: Vector, left: Vector) -> bool
@@ -320,19 +321,33 @@ fn turns_left(inc: Vector, out: Vector, left: Vector) -> bool
     out.sub(inc).dot(left) > 0.0
 }
 
+// Is a corner so mild that nothing is pinched at half the width h? Most are: the sine of half the turn
+// is at most 1/16, both legs are at least 1 and h is at most 7. The squares tell that without a root.
+fn mild(eats: f32, inc: f32, out: f32, h: f32) -> bool
+    ensures { λ r. ⌜ (r ≡ true → Mild eats inc out h) ⌝ }
+{
+    if eats <= 0.00390625 {
+        if inc >= 1.0 {
+            if out >= 1.0 {
+                return h <= 7.0;
+            }
+            return false;
+        }
+        return false;
+    }
+    false
+}
+
 // At a corner tighter than the half-width the inner vertex would cross the next inner one, so it is
 // pinched. The outer one keeps its half-width.
-fn spread_at(corner: bool, inc: Leg, out: Leg, left: Vector, h: f32) -> Spread
-    ensures { λ r. ⌜ r ≡ spreadOf corner inc out left h ⌝ }
+fn pinched(inc: Leg, out: Leg, left: Vector, h: f32) -> Spread
+    ensures { λ r. ⌜ r ≡ spreadOf true inc out left h ⌝ }
 {
     let full = Spread { left: h, right: h };
-    if !corner {
-        return full;
-    }
     let into = inc.way;
     let away = out.way;
-    let eats = eat(into, away);
-    let seg = min32(inc.length, out.length);
+    let eats = sqrt32(eat_square(into, away));
+    let seg = min32(sqrt32(inc.square), sqrt32(out.square));
     if eats > 1e-4 {
         if seg > 1e-6 {
             let inner = min32(h, 0.49 * seg / eats);
@@ -350,6 +365,20 @@ fn spread_at(corner: bool, inc: Leg, out: Leg, left: Vector, h: f32) -> Spread
         return full;
     }
     full
+}
+
+fn spread_at(corner: bool, inc: Leg, out: Leg, left: Vector, h: f32) -> Spread
+    ensures { λ r. ⌜ r ≡ spreadOf corner inc out left h ⌝ }
+{
+    if !corner {
+        return Spread { left: h, right: h };
+    }
+    let into = inc.way;
+    let away = out.way;
+    if mild(eat_square(into, away), inc.square, out.square, h) {
+        return Spread { left: h, right: h };
+    }
+    pinched(inc, out, left, h)
 }
 
 fn both(a: bool, b: bool) -> bool
