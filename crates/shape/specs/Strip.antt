@@ -69,10 +69,15 @@ tiny = single 0x38d1_b717
 unfoldable pub stepOf : List Float → ℕ → ℕ → Float
 stepOf ps a b = lengthOf (pointSub (pointAt ps b) (pointAt ps a))
 
--- "a point is kept if its distance from the last kept exceeds the larger of 0.1 and a quarter of the last step": point i, after
--- the point `last`, which a step of length s led to
+-- "a point is kept if its distance from the last kept exceeds the larger of 0.1 and a quarter of the last step": a step of length d
+-- after one of length s
+unfoldable pub keepsStep : Float → Float → Bool
+keepsStep s d = lt (maxOf (quarter ⊗ s) tenth) d
+
+-- point i, after the point `last`, which a step of length s led to
 unfoldable pub keeps : List Float → ℕ → Float → ℕ → Bool
-keeps ps last s i = lt (maxOf (quarter ⊗ s) tenth) (stepOf ps last i)
+unfolding keepsStep
+keeps ps last s i = keepsStep s (stepOf ps last i)
 
 -- the points kept, without the last of them; the last; the length of the step to it
 pub record Weld : Type 0 where

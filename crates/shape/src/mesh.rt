@@ -3,9 +3,10 @@ ghost use mathlib.Core.Path.{_≡_};
 ghost use mathlib.Core.Bool.{cond, true, false, _&&_};
 ghost use mathlib.Core.List.{List, [], _∷_};
 ghost use Prim.Native.Nat.{ℕ, min, _^_, _+_, _-_, _*_, _/_, _<_, _≤_};
-ghost use lib.Ieee.{Float, lt};
+ghost use lib.Ieee.{Float, binary32, lt};
 ghost use lib.ListN.{length};
 ghost use lib.Seq.{sets};
+ghost use Rattle.rounding.specs.Root.{sqrtOf};
 ghost use Rattle.rounding.specs.Thresholds.{micro};
 ghost use Rattle.vector.specs.Single.{single};
 ghost use Rattle.vector.specs.Coords.{vectorAdd, normalizeOrZero};
@@ -16,6 +17,7 @@ ghost use Rattle.shape.specs.Lists.{wordOf, runLong};
 ghost use Rattle.shape.specs.Strip.{
   laneOf,
   stepOf,
+  keepsStep,
   keeps,
   lastOf,
   keptOf,
@@ -75,6 +77,7 @@ use crate::lists::word_at;
 use crate::refusal::Check;
 use crate::refusal::Refusal;
 use rounding::bits::from_bits32;
+use rounding::compare::root_above_tenth;
 use rounding::extremes::clamp32;
 use rounding::extremes::is_finite32;
 use rounding::extremes::max32;
@@ -87,11 +90,12 @@ use vector::geometry::left_normal;
 
 // ---- which points of a lane are kept
 
-// How far a lane is welded: how many points are kept but for the last, the last, and the step to it.
+// How far a lane is welded: how many points are kept but for the last, the last, and the square of the
+// step to it.
 struct Held {
     count: usize,
     last: usize,
-    step: f32,
+    square: f32,
 }
 
 // One word into the memory.
@@ -102,25 +106,52 @@ fn put_word(out: &mut [u32], at: usize, v: usize)
     out[at] = v as u32;
 }
 
-// Point i, after those that `h` tells of. Most points that go are within 0.1 of the last kept, which
-// takes no root to see.
+// Is a step of the square `square` long enough, after one of the square `last`, for no root to be taken?
+// Most are: at least 4 after one below 16, or at least 1 after one below 3.8.
+fn clearly_kept(square: f32, last: f32) -> bool
+    ensures { λ r. ⌜ (r ≡ true → keepsStep (sqrtOf binary32 last) (sqrtOf binary32 square) ≡ true) ⌝ }
+{
+    if last >= 0.0 {
+        if square >= 16.0 {
+            return last <= 255.0;
+        }
+        if square >= 1.0 {
+            return last <= 15.0;
+        }
+        return false;
+    }
+    false
+}
+
+// Is a point kept, whose step from the last kept has the square `square`, where the step to that has
+// the square `last`? Most points that go are within 0.1, which takes no root to see either.
+fn is_kept(square: f32, last: f32) -> bool
+    ensures { λ r. ⌜ r ≡ keepsStep (sqrtOf binary32 last) (sqrtOf binary32 square) ⌝ }
+{
+    if clearly_kept(square, last) {
+        return true;
+    }
+    if root_above_tenth(square) {
+        return sqrt32(square) > max32(0.25 * sqrt32(last), 0.1);
+    }
+    false
+}
+
+// Point i, after those that `h` tells of.
 fn weld_step(points: &[f32], kept: &mut [u32], h: Held, i: usize) -> Held
     requires { ⌜ (h .last < i) × (i < 2 ^ 32) × (h .count < length (now kept)) × (h .count < 2 ^ 32) ⌝ }
-    ensures { λ r. ⌜ (r .last ≡ cond (keeps (now (points .entry)) (h .last) (h .step) i) i (h .last)) × (r .step ≡ cond (keeps (now (points .entry)) (h .last) (h .step) i) (stepOf (now (points .entry)) (h .last) i) (h .step)) ⌝ }
-    ensures { λ r. ⌜ Put (now (kept .entry)) (now (kept .exit)) (h .count) (cond (keeps (now (points .entry)) (h .last) (h .step) i) (h .last ∷ []) []) (r .count) ⌝ }
+    ensures { λ r. ⌜ (r .last ≡ cond (keeps (now (points .entry)) (h .last) (sqrtOf binary32 (h .square)) i) i (h .last)) × (sqrtOf binary32 (r .square) ≡ cond (keeps (now (points .entry)) (h .last) (sqrtOf binary32 (h .square)) i) (stepOf (now (points .entry)) (h .last) i) (sqrtOf binary32 (h .square))) ⌝ }
+    ensures { λ r. ⌜ Put (now (kept .entry)) (now (kept .exit)) (h .count) (cond (keeps (now (points .entry)) (h .last) (sqrtOf binary32 (h .square)) i) (h .last ∷ []) []) (r .count) ⌝ }
 {
     let d = point_at(points, i).sub(point_at(points, h.last));
-    if d.length_above_tenth() {
-        let step = d.length();
-        if step > max32(0.25 * h.step, 0.1) {
-            put_word(kept, h.count, h.last);
-            return Held {
-                count: h.count + 1,
-                last: i,
-                step: step,
-            };
-        }
-        return h;
+    let square = d.length_squared();
+    if is_kept(square, h.square) {
+        put_word(kept, h.count, h.last);
+        return Held {
+            count: h.count + 1,
+            last: i,
+            square: square,
+        };
     }
     h
 }
@@ -167,7 +198,7 @@ fn weld(points: &[f32], kept: &mut [u32]) -> usize
     let mut h = Held {
         count: 0,
         last: 0,
-        step: 0.0,
+        square: 0.0,
     };
     let mut i: usize = 0;
     while i + 1 < n {
