@@ -1,11 +1,12 @@
 -- Document 01, "Lane strips": the strip of one lane, from its points to its vertices, normals and indices, in the order of the Rust's roundings.
 -- Definitions only. Assumes nothing.
-use mathlib.Core.Bool.{Bool, cond, _&&_}
+use mathlib.Core.Path.{_≡_}
+use mathlib.Core.Bool.{Bool, true, cond, _&&_}
 use mathlib.Core.List.{List, [], _∷_, _++_}
 use Prim.Native.Nat.{ℕ, zero, suc, _+_, _-_, _*_, _/_, min}
 use lib.Dec.{ltb}
 use lib.ListN.{length, getD}
-use lib.Ieee.{Float, binary32, lt, neg}
+use lib.Ieee.{Float, binary32, lt, le, neg}
 use Rattle.rounding.specs.Root.{sqrtOf}
 use Rattle.rounding.specs.Extremes.{minOf, maxOf, clampOf}
 use Rattle.rounding.specs.Thresholds.{micro, tenth}
@@ -19,6 +20,7 @@ use Rattle.vector.specs.Coords.{
   vectorMul,
   dotOf,
   crossOf,
+  lengthSquaredOf,
   lengthOf,
   zeroVector,
   upVector,
@@ -67,10 +69,15 @@ tiny = single 0x38d1_b717
 unfoldable pub stepOf : List Float → ℕ → ℕ → Float
 stepOf ps a b = lengthOf (pointSub (pointAt ps b) (pointAt ps a))
 
--- "a point is kept if its distance from the last kept exceeds the larger of 0.1 and a quarter of the last step": point i, after
--- the point `last`, which a step of length s led to
+-- "a point is kept if its distance from the last kept exceeds the larger of 0.1 and a quarter of the last step": a step of length d
+-- after one of length s
+unfoldable pub keepsStep : Float → Float → Bool
+keepsStep s d = lt (maxOf (quarter ⊗ s) tenth) d
+
+-- point i, after the point `last`, which a step of length s led to
 unfoldable pub keeps : List Float → ℕ → Float → ℕ → Bool
-keeps ps last s i = lt (maxOf (quarter ⊗ s) tenth) (stepOf ps last i)
+unfolding keepsStep
+keeps ps last s i = keepsStep s (stepOf ps last i)
 
 -- the points kept, without the last of them; the last; the length of the step to it
 pub record Weld : Type 0 where
@@ -111,13 +118,13 @@ kept l = keptOf (l .points) (length (l .points) / 3)
 unfoldable pub keptPoint : List Float → List ℕ → ℕ → Point
 keptPoint ps ks i = pointAt ps (getD ks i 0)
 
--- a leg from a to b: its direction on the ground, and its length
+-- a leg from a to b: its direction on the ground, and the square of its length
 unfoldable pub legOf : Point → Point → Leg
-legOf a b = record { way = normalizeOrZero (horizontalOf (pointSub b a)); length = lengthOf (pointSub b a) }
+legOf a b = record { way = normalizeOrZero (horizontalOf (pointSub b a)); square = lengthSquaredOf (pointSub b a) }
 
 -- where there is none
 unfoldable pub noLeg : Leg
-noLeg = record { way = zeroVector; length = 0f }
+noLeg = record { way = zeroVector; square = 0f }
 
 -- the legs into kept point i and out of it
 unfoldable pub legIn : List Float → List ℕ → ℕ → Leg
@@ -151,10 +158,13 @@ halfOf ws k w = getD ws k w ⊗ half
 
 -- at a corner: the shorter leg; how much of it an offset of 1 eats, the sine of half the turn
 unfoldable pub shorterOf : Leg → Leg → Float
-shorterOf inc out = minOf (inc .length) (out .length)
+shorterOf inc out = minOf (sqrtOf binary32 (inc .square)) (sqrtOf binary32 (out .square))
+
+unfoldable pub eatSquareOf : Vector → Vector → Float
+eatSquareOf inc out = maxOf ((1f ⊖ clampOf (dotOf inc out) (neg 1f) 1f) ⊗ half) 0f
 
 unfoldable pub eatOf : Vector → Vector → Float
-eatOf inc out = sqrtOf binary32 (maxOf ((1f ⊖ clampOf (dotOf inc out) (neg 1f) 1f) ⊗ half) 0f)
+eatOf inc out = sqrtOf binary32 (eatSquareOf inc out)
 
 -- whether it is so sharp that the inner vertex is pinched; how far that one may lie from the point; whether it is the left one
 unfoldable pub pinches : Leg → Leg → Bool
@@ -162,6 +172,13 @@ pinches inc out = lt tiny (eatOf (inc .way) (out .way)) && lt micro (shorterOf i
 
 unfoldable pub innerOf : Leg → Leg → Float → Float
 innerOf inc out h = minOf h (most ⊗ shorterOf inc out ⊘ eatOf (inc .way) (out .way))
+
+-- a corner at which nothing is pinched: the sine of half the turn is at most 1/16, both legs are at least 1, and h at most 7
+pub record Mild (eats inc out h : Float) : Type 0 where
+  pub turn : le eats (single 0x3b80_0000) ≡ true
+  pub into : le 1f inc ≡ true
+  pub away : le 1f out ≡ true
+  pub narrow : le h (single 0x40e0_0000) ≡ true
 
 unfoldable pub turnsLeft : Vector → Vector → Vector → Bool
 turnsLeft inc out left = lt 0f (dotOf (vectorSub out inc) left)

@@ -1,11 +1,12 @@
 // The strips of lanes, merged into one mesh (`RoadNetwork::surface_mesh`).
 ghost use mathlib.Core.Path.{_≡_};
-ghost use mathlib.Core.Bool.{cond, false, _&&_};
+ghost use mathlib.Core.Bool.{cond, true, false, _&&_};
 ghost use mathlib.Core.List.{List, [], _∷_};
 ghost use Prim.Native.Nat.{ℕ, min, _^_, _+_, _-_, _*_, _/_, _<_, _≤_};
-ghost use lib.Ieee.{Float, lt};
+ghost use lib.Ieee.{Float, binary32, lt};
 ghost use lib.ListN.{length};
 ghost use lib.Seq.{sets};
+ghost use Rattle.rounding.specs.Root.{sqrtOf};
 ghost use Rattle.rounding.specs.Thresholds.{micro};
 ghost use Rattle.vector.specs.Single.{single};
 ghost use Rattle.vector.specs.Coords.{vectorAdd, normalizeOrZero};
@@ -16,6 +17,7 @@ ghost use Rattle.shape.specs.Lists.{wordOf, runLong};
 ghost use Rattle.shape.specs.Strip.{
   laneOf,
   stepOf,
+  keepsStep,
   keeps,
   lastOf,
   keptOf,
@@ -29,7 +31,8 @@ ghost use Rattle.shape.specs.Strip.{
   slopeOf,
   lateralOf,
   halfOf,
-  eatOf,
+  eatSquareOf,
+  Mild,
   turnsLeft,
   spreadOf,
   ribAt,
@@ -74,6 +77,7 @@ use crate::lists::word_at;
 use crate::refusal::Check;
 use crate::refusal::Refusal;
 use rounding::bits::from_bits32;
+use rounding::compare::root_above_tenth;
 use rounding::extremes::clamp32;
 use rounding::extremes::is_finite32;
 use rounding::extremes::max32;
@@ -86,11 +90,12 @@ use vector::geometry::left_normal;
 
 // ---- which points of a lane are kept
 
-// How far a lane is welded: how many points are kept but for the last, the last, and the step to it.
+// How far a lane is welded: how many points are kept but for the last, the last, and the square of the
+// step to it.
 struct Held {
     count: usize,
     last: usize,
-    step: f32,
+    square: f32,
 }
 
 // One word into the memory.
@@ -101,25 +106,52 @@ fn put_word(out: &mut [u32], at: usize, v: usize)
     out[at] = v as u32;
 }
 
-// Point i, after those that `h` tells of. Most points that go are within 0.1 of the last kept, which
-// takes no root to see.
+// Is a step of the square `square` long enough, after one of the square `last`, for no root to be taken?
+// Most are: at least 4 after one below 16, or at least 1 after one below 3.8.
+fn clearly_kept(square: f32, last: f32) -> bool
+    ensures { λ r. ⌜ (r ≡ true → keepsStep (sqrtOf binary32 last) (sqrtOf binary32 square) ≡ true) ⌝ }
+{
+    if last >= 0.0 {
+        if square >= 16.0 {
+            return last <= 255.0;
+        }
+        if square >= 1.0 {
+            return last <= 15.0;
+        }
+        return false;
+    }
+    false
+}
+
+// Is a point kept, whose step from the last kept has the square `square`, where the step to that has
+// the square `last`? Most points that go are within 0.1, which takes no root to see either.
+fn is_kept(square: f32, last: f32) -> bool
+    ensures { λ r. ⌜ r ≡ keepsStep (sqrtOf binary32 last) (sqrtOf binary32 square) ⌝ }
+{
+    if clearly_kept(square, last) {
+        return true;
+    }
+    if root_above_tenth(square) {
+        return sqrt32(square) > max32(0.25 * sqrt32(last), 0.1);
+    }
+    false
+}
+
+// Point i, after those that `h` tells of.
 fn weld_step(points: &[f32], kept: &mut [u32], h: Held, i: usize) -> Held
     requires { ⌜ (h .last < i) × (i < 2 ^ 32) × (h .count < length (now kept)) × (h .count < 2 ^ 32) ⌝ }
-    ensures { λ r. ⌜ (r .last ≡ cond (keeps (now (points .entry)) (h .last) (h .step) i) i (h .last)) × (r .step ≡ cond (keeps (now (points .entry)) (h .last) (h .step) i) (stepOf (now (points .entry)) (h .last) i) (h .step)) ⌝ }
-    ensures { λ r. ⌜ Put (now (kept .entry)) (now (kept .exit)) (h .count) (cond (keeps (now (points .entry)) (h .last) (h .step) i) (h .last ∷ []) []) (r .count) ⌝ }
+    ensures { λ r. ⌜ (r .last ≡ cond (keeps (now (points .entry)) (h .last) (sqrtOf binary32 (h .square)) i) i (h .last)) × (sqrtOf binary32 (r .square) ≡ cond (keeps (now (points .entry)) (h .last) (sqrtOf binary32 (h .square)) i) (stepOf (now (points .entry)) (h .last) i) (sqrtOf binary32 (h .square))) ⌝ }
+    ensures { λ r. ⌜ Put (now (kept .entry)) (now (kept .exit)) (h .count) (cond (keeps (now (points .entry)) (h .last) (sqrtOf binary32 (h .square)) i) (h .last ∷ []) []) (r .count) ⌝ }
 {
     let d = point_at(points, i).sub(point_at(points, h.last));
-    if d.length_above_tenth() {
-        let step = d.length();
-        if step > max32(0.25 * h.step, 0.1) {
-            put_word(kept, h.count, h.last);
-            return Held {
-                count: h.count + 1,
-                last: i,
-                step: step,
-            };
-        }
-        return h;
+    let square = d.length_squared();
+    if is_kept(square, h.square) {
+        put_word(kept, h.count, h.last);
+        return Held {
+            count: h.count + 1,
+            last: i,
+            square: square,
+        };
     }
     h
 }
@@ -166,7 +198,7 @@ fn weld(points: &[f32], kept: &mut [u32]) -> usize
     let mut h = Held {
         count: 0,
         last: 0,
-        step: 0.0,
+        square: 0.0,
     };
     let mut i: usize = 0;
     while i + 1 < n {
@@ -178,10 +210,10 @@ fn weld(points: &[f32], kept: &mut [u32]) -> usize
 
 // ---- ribs
 
-// From one kept point to the next: the direction on the ground, and the length.
+// From one kept point to the next: the direction on the ground, and the square of the length.
 struct Leg {
     way: Vector,
-    length: f32,
+    square: f32,
 }
 
 // How far the two vertices of a rib lie from the kept point.
@@ -215,7 +247,7 @@ fn leg_between(a: Point, b: Point) -> Leg
     let d = b.sub(a);
     Leg {
         way: horizontal(d).normalize_or_zero(),
-        length: d.length(),
+        square: d.length_squared(),
     }
 }
 
@@ -224,7 +256,7 @@ fn no_leg() -> Leg
 {
     Leg {
         way: Vector::ZERO,
-        length: 0.0,
+        square: 0.0,
     }
 }
 
@@ -306,12 +338,12 @@ fn half_at(widths: &[f32], k: usize, width: f32) -> f32
     single_or(widths, k, width) * 0.5
 }
 
-// The sine of half the turn: how much of a leg an offset of 1 eats.
-fn eat(inc: Vector, out: Vector) -> f32
-    ensures { λ r. ⌜ r ≡ eatOf inc out ⌝ }
+// The sine of half the turn, squared. The sine is how much of a leg an offset of 1 eats.
+fn eat_square(inc: Vector, out: Vector) -> f32
+    ensures { λ r. ⌜ r ≡ eatSquareOf inc out ⌝ }
 {
     let cos_turn = clamp32(inc.dot(out), -1.0, 1.0);
-    sqrt32(max32((1.0 - cos_turn) * 0.5, 0.0))
+    max32((1.0 - cos_turn) * 0.5, 0.0)
 }
 
 fn turns_left(inc: Vector, out: Vector, left: Vector) -> bool
@@ -320,19 +352,33 @@ fn turns_left(inc: Vector, out: Vector, left: Vector) -> bool
     out.sub(inc).dot(left) > 0.0
 }
 
+// Is a corner so mild that nothing is pinched at half the width h? Most are: the sine of half the turn
+// is at most 1/16, both legs are at least 1 and h is at most 7. The squares tell that without a root.
+fn mild(eats: f32, inc: f32, out: f32, h: f32) -> bool
+    ensures { λ r. ⌜ (r ≡ true → Mild eats inc out h) ⌝ }
+{
+    if eats <= 0.00390625 {
+        if inc >= 1.0 {
+            if out >= 1.0 {
+                return h <= 7.0;
+            }
+            return false;
+        }
+        return false;
+    }
+    false
+}
+
 // At a corner tighter than the half-width the inner vertex would cross the next inner one, so it is
 // pinched. The outer one keeps its half-width.
-fn spread_at(corner: bool, inc: Leg, out: Leg, left: Vector, h: f32) -> Spread
-    ensures { λ r. ⌜ r ≡ spreadOf corner inc out left h ⌝ }
+fn pinched(inc: Leg, out: Leg, left: Vector, h: f32) -> Spread
+    ensures { λ r. ⌜ r ≡ spreadOf true inc out left h ⌝ }
 {
     let full = Spread { left: h, right: h };
-    if !corner {
-        return full;
-    }
     let into = inc.way;
     let away = out.way;
-    let eats = eat(into, away);
-    let seg = min32(inc.length, out.length);
+    let eats = sqrt32(eat_square(into, away));
+    let seg = min32(sqrt32(inc.square), sqrt32(out.square));
     if eats > 1e-4 {
         if seg > 1e-6 {
             let inner = min32(h, 0.49 * seg / eats);
@@ -350,6 +396,20 @@ fn spread_at(corner: bool, inc: Leg, out: Leg, left: Vector, h: f32) -> Spread
         return full;
     }
     full
+}
+
+fn spread_at(corner: bool, inc: Leg, out: Leg, left: Vector, h: f32) -> Spread
+    ensures { λ r. ⌜ r ≡ spreadOf corner inc out left h ⌝ }
+{
+    if !corner {
+        return Spread { left: h, right: h };
+    }
+    let into = inc.way;
+    let away = out.way;
+    if mild(eat_square(into, away), inc.square, out.square, h) {
+        return Spread { left: h, right: h };
+    }
+    pinched(inc, out, left, h)
 }
 
 fn both(a: bool, b: bool) -> bool

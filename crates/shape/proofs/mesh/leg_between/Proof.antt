@@ -13,14 +13,19 @@ horizontal-requires c κs = search needs
 normalize-or-zero-requires : tie.Need-normalize-or-zero-requires
 normalize-or-zero-requires c κs = search needs
 
-length-requires : tie.Need-length-requires
-length-requires c κs = search needs
+length-squared-requires : tie.Need-length-squared-requires
+length-squared-requires c κs = search needs
 
 returns : tie.Need-returns
 unfolding legOf
-returns c = rw (c .length .ensures, c .before .normalize-or-zero .ensures, c .before .before .horizontal .ensures, c .before .before .before .sub .ensures)
+returns c = rw (c .length-squared .ensures, c .before .normalize-or-zero .ensures, c .before .before .horizontal .ensures, c .before .before .before .sub .ensures)
 
 pub leg-between-spec : {M : Type 1} → statement M
 leg-between-spec =
     tie.close
-    (tie.spec sub-requires horizontal-requires normalize-or-zero-requires length-requires returns)
+    (tie.spec
+    sub-requires
+    horizontal-requires
+    normalize-or-zero-requires
+    length-squared-requires
+    returns)

@@ -7,9 +7,11 @@ use native.Mathlib.Nat.{zero-add}
 use native.Mathlib.Numerals.{add-one}
 use native.Mathlib.Omega.{arith}
 use denote.Ref.{now}
-use lib.Ieee.{Float, lt}
+use lib.Ieee.{Float, binary32, lt}
+use lib.Ieee as Ieee
 use lib.ListN.{length, length-append}
 use lib.Seq.{sets}
+use Rattle.rounding.specs.Root.{sqrtOf}
 use Rattle.rounding.specs.Thresholds.{micro}
 use Rattle.shape.specs.declared.mesh.Held.{Held}
 use Rattle.shape.specs.Memory.{Put}
@@ -23,14 +25,14 @@ use Rattle.shape.proofs.mesh.weld.Tie as tie
 record Holds (k₀ k : List ℕ) (h : Held) (w : Weld) : Type 0 where
   count : h .count ≡ length (w .front)
   last : h .last ≡ w .last
-  step : h .step ≡ w .step
+  step : sqrtOf binary32 (h .square) ≡ w .step
   memory : k ≡ sets k₀ 0 (w .front)
 
 -- a step takes it on
 module _ (ps : List Float) (k₀ k k′ : List ℕ) (h h′ : Held) (w : Weld) (i : ℕ) (hold : Holds k₀ k h w) where
-  next : (h′ .last ≡ cond (keeps ps (h .last) (h .step) i) i (h .last))
-      → (h′ .step ≡ cond (keeps ps (h .last) (h .step) i) (stepOf ps (h .last) i) (h .step))
-      → Put k k′ (h .count) (cond (keeps ps (h .last) (h .step) i) (h .last ∷ []) []) (h′ .count)
+  next : (h′ .last ≡ cond (keeps ps (h .last) (sqrtOf binary32 (h .square)) i) i (h .last))
+      → (sqrtOf binary32 (h′ .square) ≡ cond (keeps ps (h .last) (sqrtOf binary32 (h .square)) i) (stepOf ps (h .last) i) (sqrtOf binary32 (h .square)))
+      → Put k k′ (h .count) (cond (keeps ps (h .last) (sqrtOf binary32 (h .square)) i) (h .last ∷ []) []) (h′ .count)
       → Holds k₀ k′ h′ (weldNext ps w i)
   unfolding weldNext
   next l s p =
@@ -73,7 +75,7 @@ unfolding keptOf
 returns c = rw (c .if1 .taken) (record { memory = refl; ends = refl }, omega arith)
 
 loop-holds : tie.Need-loop-holds Inv-loop μ-loop
-unfolding welded
+unfolding welded sqrtOf Ieee.ofBits
 loop-holds c = record { holds = record { count = refl; last = refl; step = refl; memory = refl }; few = omega arith; old = omega arith; more = omega arith; long = c .before .before .before .pre .1 }
 
 add-loop : tie.Need-add-loop Inv-loop μ-loop
@@ -94,7 +96,7 @@ loop-less c = omega arith
 loop-again : tie.Need-loop-again Inv-loop μ-loop
 loop-again c = let ps = now (c .before .before .before .before .before .before .before .before .before .args .points) in
     let at = c .before .before .before .before .before .loop in
-    let k = keeps ps (at .h .last) (at .h .step) (at .i + 1) in
+    let k = keeps ps (at .h .last) (sqrtOf binary32 (at .h .square)) (at .i + 1) in
     let did = c .before .before .weld-step in
     record {
       holds =
