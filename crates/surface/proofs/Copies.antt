@@ -1,8 +1,7 @@
 -- What `read` and `write` say and leave, by how they came to it; and the parts of a list that a record is read from. Assumes nothing.
 use mathlib.Core.Path.{_≡_, refl, sym, ap, _∙_}
 use mathlib.Core.List.{List}
-use Prim.Native.Nat.{ℕ, _+_, _-_, _*_, _/_, _≤_, _<_}
-use native.Mathlib.Nat.{zero-add}
+use Prim.Native.Nat.{ℕ, _+_, _-_, _*_, _≤_, _<_}
 use native.Mathlib.Omega.{arith}
 use borrow.Author.Tests.{lt-ltb, le-ltb}
 use lib.ListN.{length, take, drop, length-take, length-drop, length-replicate, replicate}
@@ -14,7 +13,6 @@ use Rattle.shape.specs.declared.refusal.Refusal.the-variants.{ShortOutput}
 use Rattle.shape.specs.declared.refusal.Check.{Check}
 use Rattle.shape.specs.declared.refusal.Check.the-variants.{Fine, Faulty}
 use Rattle.shape.specs.Laws.Memory.{sets-front, put-front, put-length}
-use Rattle.surface.specs.declared.file.Copied.{Copied}
 use Rattle.surface.specs.declared.file.Copied.the-variants.{Count, Refused}
 use Rattle.surface.specs.File.{wordsOf, heldRecord, fileRecord, copyOf, readCopied}
 use Rattle.surface.specs.FileSteps.{soundKind}

@@ -5,4 +5,6 @@ pub mod Held
 pub mod Text
 pub mod Report
 pub mod ReportSteps
+pub mod FileExamples
+pub mod ReportExamples
 pub mod Laws

@@ -6,7 +6,7 @@ ghost use mathlib.Core.List.{[], _∷_};
 ghost use lib.ListN.{length};
 ghost use Rattle.shape.specs.Memory.{Put};
 ghost use Rattle.shape.specs.Lists.{wordOf};
-ghost use Rattle.surface.specs.Held.{countKind, sizesOf, singleIn, placeIn, normalIn, cornersIn, verticesOf, normalsOf, indicesOf, laneOf, questionAt};
+ghost use Rattle.surface.specs.Held.{countKind, sizesOf, singleIn, verticesOf, normalsOf, indicesOf, laneOf, questionAt};
 use rounding::bits::from_bits32;
 use shape::lists::record_word;
 

@@ -1,19 +1,19 @@
 -- Words and bytes are turned into each other without loss; and what `read` takes, `write` gives back, and the other way round. Assumes nothing.
 use mathlib.Core.Path.{_≡_, refl, sym, ap, _∙_, fun-ext}
-use mathlib.Core.Bool.{Bool, true, false, cond, not, _||_}
+use mathlib.Core.Bool.{Bool, true, false, cond}
 use mathlib.Core.List.{List, [], _∷_}
 use Prim.Native.Nat.{ℕ, zero, suc, _+_, _-_, _*_, _/_, _%_, _^_, _≤_, _<_, min}
 use native.Mathlib.Nat.{one-mul, add-zero, div-div-eq-div-mul, mod-eq-of-lt}
 use native.Mathlib.Decide.{decLt}
 use native.Mathlib.Omega.{arith}
-use borrow.Author.Tests.{ltb-true, ltb-false, lt-ltb, le-ltb}
-use lib.Dec.{ltb, eqb}
+use borrow.Author.Tests.{ltb-false, le-ltb}
+use lib.Dec.{ltb}
 use lib.ListN.{length, getD, take, drop, length-take, length-drop, List·getD-eq-default}
 use lib.Seq.{ext-getD, getD-take, getD-drop}
-use Rattle.shape.specs.Gather.{gather, any, least}
-use Rattle.shape.specs.Refusal.{Fault, fine, fault, refuse, Answer, taken, refused, judge}
+use Rattle.shape.specs.Gather.{gather, least}
+use Rattle.shape.specs.Refusal.{Fault, fine, fault, refuse, Answer, taken, judge}
 use Rattle.shape.specs.Laws.Gather.{gather-even, gather-at, or-left}
-use Rattle.surface.specs.File.{wordAt, wordsOf, fourBytes, bytesOf, badRecord, kindBefore, badAt, recordFault, parts, heldRecord, fileRecord, heldFault, fileFault, copyOf, readOf, writeOf}
+use Rattle.surface.specs.File.{wordAt, wordsOf, fourBytes, bytesOf, badRecord, badAt, recordFault, parts, heldRecord, fileRecord, heldFault, fileFault, copyOf, readOf, writeOf}
 
 -- every number of a list is below n, as the bytes and words of a slice are
 abbrev pub Below : ℕ → List ℕ → Type 0
@@ -93,9 +93,6 @@ bytes-of-words bs b whole =
     let l : length (bytesOf (wordsOf bs)) ≡ length bs = omega (arith, bytes-length (wordsOf bs), words-length bs) in
     ext-getD 0 (bytesOf (wordsOf bs)) bs l (λ i h. byte-at i (omega arith))
   where
-    ws : List ℕ
-    ws = wordsOf bs
-
     -- byte j of word k
     place : (k j : ℕ) → k < length bs / 4 → j < 4 → getD (bytesOf (wordsOf bs)) (4 * k + j) 0 ≡ getD (fourBytes (wordAt bs k)) j 0
     place k j h p =
@@ -115,6 +112,34 @@ bytes-of-words bs b whole =
         let j : i % 4 < 4 = omega arith in
         let e : 4 * (i / 4) + i % 4 ≡ i = omega arith in
         rw e at (place (i / 4) (i % 4) k j ∙ four (i / 4) (i % 4) j)
+
+-- what is made of bytes is words, and what is made of words is bytes
+pub words-below : (bs : List ℕ) → Below 256 bs → Below (2 ^ 32) (wordsOf bs)
+unfolding wordAt
+words-below bs b i =
+    elim (decLt i (length bs / 4)) [
+      | yes p ↦ rw (words-at bs i p) (omega (arith, b (4 * i), b (4 * i + 1), b (4 * i + 2), b (4 * i + 3)))
+      | no p ↦ (let l : length (wordsOf bs) ≤ i = omega (arith, words-length bs) in rw (List·getD-eq-default (wordsOf bs) 0 l) (omega arith))
+    ]
+
+pub bytes-below : (ws : List ℕ) → Below 256 (bytesOf ws)
+unfolding fourBytes
+bytes-below ws i =
+    elim (decLt i (length (bytesOf ws))) [
+      | yes p ↦
+          let k : i / 4 < length ws = omega (arith, bytes-length ws) in
+          let j : i % 4 < 4 = omega arith in
+          let e : 4 * (i / 4) + i % 4 ≡ i = omega arith in
+          rw (rw e at (bytes-at ws (i / 4) (i % 4) k j)) (byte (getD ws (i / 4) 0) (i % 4) j)
+      | no p ↦ (let l : length (bytesOf ws) ≤ i = omega arith in rw (List·getD-eq-default (bytesOf ws) 0 l) (omega arith))
+    ]
+  where
+    byte : (w j : ℕ) → j < 4 → getD (fourBytes w) j 0 < 256
+    byte w zero p = omega arith
+    byte w (suc zero) p = omega arith
+    byte w (suc (suc zero)) p = omega arith
+    byte w (suc (suc (suc zero))) p = omega arith
+    byte w (suc (suc (suc (suc j)))) p = absurd (omega arith)
 
 -- ---- records
 

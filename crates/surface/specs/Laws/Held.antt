@@ -1,23 +1,23 @@
 -- How many records of a kind there are and where they stand, and how long the lists of the mesh are. Assumes nothing.
-use mathlib.Core.Path.{_≡_, refl, sym, ap, _∙_}
+use mathlib.Core.Path.{_≡_, refl, ap, _∙_}
 use mathlib.Core.Bool.{Bool, true, false, cond, _||_}
 use mathlib.Core.List.{List}
-use Prim.Native.Nat.{ℕ, zero, suc, _+_, _-_, _*_, _/_, _%_, _≤_, _<_}
+use Prim.Native.Nat.{ℕ, zero, suc, _+_, _-_, _*_, _/_, _≤_, _<_}
 use native.Mathlib.Numerals.{add-one}
 use native.Mathlib.Decide.{decLt}
 use native.Mathlib.Omega.{arith}
-use borrow.Author.Tests.{ltb-false, eq-eqb, ne-eqb, eqb-false}
+use borrow.Author.Tests.{ltb-false, ne-eqb, eqb-false}
 use lib.Dec.{ltb, eqb}
-use lib.ListN.{length, getD, take, drop}
+use lib.ListN.{length, drop}
 use lib.Seq.{getD-take, getD-drop}
-use Rattle.shape.specs.Gather.{gather, any}
+use Rattle.shape.specs.Gather.{any}
 use Rattle.shape.specs.Refusal.{fine}
 use Rattle.shape.specs.Lists.{wordOf}
 use Rattle.shape.specs.Laws.Gather.{gather-even, or-left, or-right}
 use Rattle.surface.specs.declared.held.Sizes.{Sizes}
 use Rattle.surface.specs.File.{kindOf, spareFrom, spareUsed, badRecord, kindBefore, badAt, parts, heldRecord, heldFault}
 use Rattle.surface.specs.Held.{howMany, isKind, countKind, sizesOf, placeIn, normalIn, cornersIn, verticesOf, normalsOf, indicesOf}
-use Rattle.surface.specs.Laws.File.{Sound, faultless, whole-held}
+use Rattle.surface.specs.Laws.File.{faultless, whole-held}
 use Rattle.surface.specs.Laws.Records.{positive}
 
 -- ---- how many
@@ -219,3 +219,18 @@ module _ (ws : List ℕ) where
     pub kinds : Ranked (kindAt ws) (length ws / 8) (countKind ws 1) (countKind ws 2) (countKind ws 3)
     unfolding countKind isKind
     kinds = ranked (kindAt ws) (length ws / 8) rising
+
+-- at most 2,048 records, and so at most 6,144 elements in each list
+pub record Few (s : Sizes) : Type 0 where
+  pub vertex-places : 3 * s .vertices ≤ 6144
+  pub triangle-corners : 3 * s .triangles ≤ 6144
+  pub at-most : s .questions ≤ 2048
+
+pub few : (ws : List ℕ) (s : Sizes) → length ws ≤ 16384 → s ≡ sizesOf ws → Few s
+few ws s h e =
+    let z = sized ws s e in
+    record {
+      vertex-places = omega (arith, z .vertices-few);
+      triangle-corners = omega (arith, z .triangles-few);
+      at-most = omega (arith, z .questions-few);
+    }

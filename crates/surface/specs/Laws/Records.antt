@@ -1,14 +1,14 @@
 -- Laws behind the judging of records: how many there are, and the kind that is kept from one to the next. Assumes nothing.
-use mathlib.Core.Path.{_≡_, refl, sym, ap, _∙_}
+use mathlib.Core.Path.{_≡_, refl, sym, _∙_}
 use mathlib.Core.Bool.{Bool, true, false, cond, _||_}
 use mathlib.Core.List.{List}
 use Prim.Native.Nat.{ℕ, zero, suc, _+_, _-_, _*_, _/_, _%_, _≤_, _<_}
 use native.Mathlib.Nat.{div-add-mod', div-eq-of-lt-le, mod-lt, add-mul, mul-le-mul-left}
 use native.Mathlib.Numerals.{add-one}
 use native.Mathlib.Omega.{arith}
-use borrow.Author.Tests.{lt-ltb, le-ltb, ltb-false, eq-eqb, ne-eqb, eqb-true}
+use borrow.Author.Tests.{lt-ltb, le-ltb, eq-eqb, eqb-true}
 use lib.Dec.{ltb, eqb}
-use lib.ListN.{length, getD, take, drop, length-take, length-drop}
+use lib.ListN.{length, take, drop, length-take, length-drop}
 use Rattle.shape.specs.Gather.{any, least}
 use Rattle.shape.specs.Laws.Gather.{any-next, any-none, least-at, least-none}
 use Rattle.surface.specs.File.{kindOf, spareFrom, spareUsed, badRecord, kindBefore, badAt, parts, heldRecord, fileRecord}

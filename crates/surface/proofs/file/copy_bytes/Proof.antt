@@ -1,6 +1,6 @@
 -- `surface::file::copy_bytes` meets its contract: the bytes of the first i words are put. Assumes nothing.
-use mathlib.Core.Path.{_≡_, refl, sym, ap, _∙_}
-use Prim.Native.Nat.{ℕ, _+_, _-_, _*_, _/_, _<_, _≤_}
+use mathlib.Core.Path.{_≡_, refl}
+use Prim.Native.Nat.{_-_, _*_, _≤_}
 use denote.Ref.{now}
 use lib.ListN.{length, getD}
 use Rattle.shape.specs.Gather.{gather}

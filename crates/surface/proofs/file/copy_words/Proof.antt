@@ -1,7 +1,7 @@
 -- `surface::file::copy_words` meets its contract: the first i words are put. Assumes nothing.
-use mathlib.Core.Path.{_≡_, refl, sym, ap, _∙_}
+use mathlib.Core.Path.{_≡_, refl}
 use mathlib.Core.List.{[], _∷_}
-use Prim.Native.Nat.{ℕ, _+_, _-_, _*_, _/_, _<_, _≤_}
+use Prim.Native.Nat.{_-_, _/_, _≤_}
 use denote.Ref.{now}
 use lib.ListN.{length}
 use Rattle.shape.specs.Gather.{gather}

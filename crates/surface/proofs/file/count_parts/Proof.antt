@@ -1,5 +1,4 @@
 -- `surface::file::count_parts` meets its contract: the quotient, and one more for what is left. Assumes nothing.
-use Rattle.surface.specs.File.{parts}
 use Rattle.surface.specs.Laws.Records.{parts-even, parts-more, more-fits}
 use native.Mathlib.Omega.{arith}
 use borrow.Author.Needs.{needs}

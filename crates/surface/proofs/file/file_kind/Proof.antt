@@ -1,6 +1,5 @@
 -- `surface::file::file_kind` meets its contract: a part record is short of eight words. Assumes nothing.
 use denote.Ref.{now}
-use lib.ListN.{length}
 use Rattle.surface.specs.Laws.Records.{kind-part, file-short}
 use Rattle.surface.proofs.Copies.{file-part}
 use borrow.Author.Needs.{needs}

@@ -1,6 +1,6 @@
 -- `surface::file::first_bad_file` meets its contract: no record before k is bad. Assumes nothing.
-use mathlib.Core.Path.{_≡_, refl, sym, ap, _∙_}
-use Prim.Native.Nat.{ℕ, _+_, _-_, _*_, _/_, _<_, _≤_}
+use mathlib.Core.Path.{_≡_, _∙_}
+use Prim.Native.Nat.{_-_, _≤_}
 use denote.Ref.{now}
 use Rattle.surface.specs.File.{fileRecord}
 use Rattle.surface.specs.Laws.Records.{Passed, passed-none, passed-next, passed-bad, passed-all}

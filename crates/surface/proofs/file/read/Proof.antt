@@ -1,5 +1,5 @@
 -- `surface::file::read` meets its contract, by the check and the room. Assumes nothing.
-use mathlib.Core.Path.{_≡_, refl, sym, ap, _∙_}
+use mathlib.Core.Path.{sym}
 use denote.Ref.{now}
 use Rattle.surface.specs.File.{fileFault, wordsOf, readOf}
 use Rattle.surface.specs.Laws.File.{words-length}

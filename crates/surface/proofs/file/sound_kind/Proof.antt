@@ -1,6 +1,5 @@
 -- `surface::file::sound_kind` meets its contract, by the test that led to each return. Assumes nothing.
-use mathlib.Core.Path.{_≡_, refl, sym, ap, _∙_}
-use denote.Ref.{now}
+use mathlib.Core.Path.{sym, _∙_}
 use Rattle.surface.specs.Laws.Records.{kind-part, kind-unknown, kind-falls, kind-spare, kind-kept}
 use borrow.Author.Needs.{needs}
 use Rattle.surface.proofs.file.sound_kind.Statement.{statement}

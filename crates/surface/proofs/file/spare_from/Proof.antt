@@ -1,5 +1,4 @@
 -- `surface::file::spare_from` meets its contract, by the test that led to each return. Assumes nothing.
-use mathlib.Core.Path.{_≡_, refl, sym, ap, _∙_}
 use borrow.Author.Tests.{eq-eqb, ne-eqb}
 use Rattle.surface.specs.File.{spareFrom}
 use native.Mathlib.Omega.{arith}

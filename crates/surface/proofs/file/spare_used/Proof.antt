@@ -1,11 +1,10 @@
 -- `surface::file::spare_used` meets its contract: no spare word before the one looked at is used. Assumes nothing.
-use mathlib.Core.Path.{_≡_, refl, sym, ap, _∙_}
-use mathlib.Core.Bool.{true, false, not}
-use Prim.Native.Nat.{ℕ, _+_, _-_, _*_, _/_, _<_, _≤_}
+use mathlib.Core.Path.{_≡_, refl, sym}
+use mathlib.Core.Bool.{false}
+use Prim.Native.Nat.{_+_, _-_, _≤_}
 use denote.Ref.{now}
 use borrow.Author.Tests.{eq-eqb, ne-eqb}
-use lib.Dec.{eqb}
-use lib.ListN.{length, getD}
+use lib.ListN.{getD}
 use Rattle.shape.specs.Gather.{any}
 use Rattle.shape.specs.Laws.Gather.{any-next, any-some}
 use Rattle.surface.specs.File.{spareFrom, spareUsed}

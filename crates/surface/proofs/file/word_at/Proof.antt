@@ -1,5 +1,4 @@
 -- `surface::file::word_at` meets its contract. Assumes nothing.
-use mathlib.Core.Path.{_≡_, refl, sym, ap, _∙_}
 use Rattle.surface.specs.File.{wordAt}
 use borrow.Author.Needs.{needs}
 use Rattle.surface.proofs.file.word_at.Statement.{statement}

@@ -1,5 +1,5 @@
 -- `surface::file::write` meets its contract, by the check and the room. Assumes nothing.
-use mathlib.Core.Path.{_≡_, refl, sym, ap, _∙_}
+use mathlib.Core.Path.{sym}
 use denote.Ref.{now}
 use Rattle.surface.specs.File.{heldFault, bytesOf, writeOf}
 use Rattle.surface.specs.Laws.File.{bytes-length}

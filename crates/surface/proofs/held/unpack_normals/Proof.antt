@@ -1,6 +1,6 @@
 -- `surface::held::unpack_normals` meets its contract: those of the first k vertices are put. Assumes nothing.
-use mathlib.Core.Path.{_≡_, refl, sym, ap, _∙_}
-use Prim.Native.Nat.{ℕ, _+_, _-_, _*_, _/_, _<_, _≤_}
+use mathlib.Core.Path.{_≡_, refl}
+use Prim.Native.Nat.{_-_, _*_, _/_, _≤_}
 use denote.Ref.{now}
 use lib.ListN.{length}
 use Rattle.shape.specs.Gather.{gather}
