@@ -176,7 +176,14 @@ fn put_surface(held: &[u32], out: &mut [u8]) -> usize
     unpack_vertices(held, sizes, &mut vertices);
     unpack_normals(held, sizes, &mut normals);
     unpack_indices(held, sizes, &mut indices);
-    put_mesh(held, sizes, &vertices[..v], &normals[..v], &indices[..i], out)
+    put_mesh(
+        held,
+        sizes,
+        &vertices[..v],
+        &normals[..v],
+        &indices[..i],
+        out,
+    )
 }
 
 // The text of a file.

@@ -51,7 +51,11 @@ fn hex_digit(d: u32) -> u8
     requires { ⌜ d < 16 ⌝ }
     ensures { λ r. ⌜ r ≡ hexDigit d ⌝ }
 {
-    if d < 10 { (48 + d) as u8 } else { (87 + d) as u8 }
+    if d < 10 {
+        (48 + d) as u8
+    } else {
+        (87 + d) as u8
+    }
 }
 
 // A word in hexadecimal, in eight digits.
