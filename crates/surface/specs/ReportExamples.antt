@@ -1,9 +1,7 @@
 -- Computed cases of the printed text: document 01's lines, numbers at their ends, and files without a mesh. Assumes nothing.
-use Prim.Native.Nat.{ℕ}
 use mathlib.Core.Path.{_≡_, refl}
-use mathlib.Core.List.{List, [], _∷_}
+use mathlib.Core.List.{[], _∷_}
 use lib.Ieee as Ieee
-use lib.Ieee.{Float}
 use Rattle.rounding.specs.Stored.{storedOf}
 use Rattle.vector.specs.declared.coords.Vector.{Vector}
 use Rattle.vector.specs.Single.{single}
