@@ -2,7 +2,7 @@
 use mathlib.Core.Path.{_≡_, refl, sym, ap, _∙_}
 use mathlib.Core.Bool.{Bool, true, false}
 use mathlib.Core.List.{List, []}
-use Prim.Native.Nat.{ℕ, _+_, _*_, _/_, _≤_, _<_, _^_}
+use Prim.Native.Nat.{ℕ, _≤_, _<_, _^_}
 use native.Mathlib.Nat.{zero-add}
 use native.Mathlib.Omega.{arith}
 use borrow.Author.Tests.{ltb-false}
@@ -13,7 +13,7 @@ use lib.Seq.{take-append-seam}
 use Rattle.shape.specs.declared.refusal.Refusal.{Refusal}
 use Rattle.shape.specs.declared.refusal.Refusal.the-variants.{ShortOutput}
 use Rattle.shape.specs.Gather.{least}
-use Rattle.shape.specs.Lists.{Mesh, meshLists}
+use Rattle.shape.specs.Lists.{meshLists}
 use Rattle.shape.specs.Memory.{Put}
 use Rattle.shape.specs.Refusal.{Fault, fine, fault, refuse, Answer, taken, refused, judge, leaves, numberOf, placeOf}
 use Rattle.shape.specs.Laws.Gather.{least-le}

@@ -1,11 +1,10 @@
 -- The line of a question: what the lookup answered picks the case. Assumes nothing.
-use mathlib.Core.Path.{_≡_, refl, sym, ap, _∙_}
+use mathlib.Core.Path.{_≡_, sym, ap, _∙_}
 use mathlib.Core.Bool.{Bool, true, false, cond}
 use mathlib.Core.List.{List, []}
-use Prim.Native.Nat.{ℕ, _+_, _*_, _/_, _≤_, _<_}
+use Prim.Native.Nat.{ℕ, _+_, _≤_, _<_}
 use native.Mathlib.Nat.{add-zero}
 use native.Mathlib.Omega.{arith}
-use lib.ListN.{length}
 use lib.Ieee.{Float}
 use Rattle.vector.specs.declared.coords.Vector.{Vector}
 use Rattle.shape.specs.declared.refusal.Refusal.{Refusal}

@@ -6,4 +6,5 @@ pub mod Text
 pub mod Report
 pub mod ReportSteps
 pub mod FileExamples
+pub mod ReportExamples
 pub mod Laws

@@ -2,7 +2,6 @@
 use Prim.Native.Nat.{ℕ}
 use mathlib.Core.Bool.{Bool, true, false}
 use mathlib.Core.List.{List, [], _++_}
-use lib.ListN.{length}
 use Rattle.shape.specs.Gather.{gather}
 use Rattle.shape.specs.Lists.{Mesh, meshLists}
 use Rattle.shape.specs.Refusal.{Answer, taken, refused, judge}

@@ -1,8 +1,7 @@
 // The text that `probe` prints of a surface file. A question is answered by the indexed lookup, over an
 // index that is built in memory of this module's own.
 ghost use mathlib.Core.Path.{_≡_};
-ghost use mathlib.Core.Bool.{cond};
-ghost use Prim.Native.Nat.{_+_, _*_, _<_, _≤_, _^_};
+ghost use Prim.Native.Nat.{_+_, _<_, _≤_, _^_};
 ghost use lib.ListN.{length};
 ghost use Rattle.shape.specs.Memory.{Put};
 ghost use Rattle.shape.specs.Refusal.{leaves, numberOf, placeOf};
@@ -108,7 +107,7 @@ fn put_answer(
             at: put_none(out, told.at, k),
             found: told.found,
         },
-        // An index is not foreign to the mesh that it was built from, so this is never reached.
+        // An index is never foreign to the mesh that it was built from (`never-refused`).
         Sampled::Refused(r) => Told {
             at: put_none(out, told.at, k),
             found: told.found,
@@ -176,7 +175,14 @@ fn put_surface(held: &[u32], out: &mut [u8]) -> usize
     unpack_vertices(held, sizes, &mut vertices);
     unpack_normals(held, sizes, &mut normals);
     unpack_indices(held, sizes, &mut indices);
-    put_mesh(held, sizes, &vertices[..v], &normals[..v], &indices[..i], out)
+    put_mesh(
+        held,
+        sizes,
+        &vertices[..v],
+        &normals[..v],
+        &indices[..i],
+        out,
+    )
 }
 
 // The text of a file.

@@ -5,10 +5,8 @@ ghost use Prim.Native.Nat.{ℕ, suc, _+_, _<_, _≤_, _^_};
 ghost use lib.ListN.{length};
 ghost use Rattle.rounding.specs.Stored.{storedOf};
 ghost use Rattle.shape.specs.Memory.{Put};
-ghost use Rattle.shape.specs.Refusal.{numberOf, placeOf};
 ghost use Rattle.surface.specs.Text.{digit, digitsOf, decimal, hexDigit, hexadecimal, normalText, laneText, foundLine, noneLine, askedLine, refusedLine};
 use rounding::bits::stored;
-use shape::refusal::Refusal;
 use vector::coords::Vector;
 
 // Bytes as they are.
@@ -51,7 +49,11 @@ fn hex_digit(d: u32) -> u8
     requires { ⌜ d < 16 ⌝ }
     ensures { λ r. ⌜ r ≡ hexDigit d ⌝ }
 {
-    if d < 10 { (48 + d) as u8 } else { (87 + d) as u8 }
+    if d < 10 {
+        (48 + d) as u8
+    } else {
+        (87 + d) as u8
+    }
 }
 
 // A word in hexadecimal, in eight digits.

@@ -1,11 +1,11 @@
 -- The text of a file has a bound, its mesh is always in order, and no lookup that it is made of is turned back. Assumes nothing.
-use mathlib.Core.Path.{_≡_, refl, sym, ap, _∙_}
-use mathlib.Core.Bool.{Bool, true, false, cond, not}
-use mathlib.Core.List.{List, []}
-use Prim.Native.Nat.{ℕ, zero, suc, _+_, _*_, _/_, _%_, _≤_, _<_}
+use mathlib.Core.Path.{_≡_, refl, sym, _∙_}
+use mathlib.Core.Bool.{Bool, true, false}
+use mathlib.Core.List.{List}
+use Prim.Native.Nat.{ℕ, _*_, _/_, _%_, _≤_}
 use native.Mathlib.Omega.{arith}
 use borrow.Author.Tests.{ltb-false, le-ltb, eq-eqb}
-use lib.Dec.{ltb, eqb}
+use lib.Dec.{ltb}
 use lib.Ieee.{Float}
 use lib.ListN.{length, take, drop, replicate, length-append, length-replicate}
 use lib.Seq.{take-append-seam}
@@ -13,10 +13,9 @@ use Rattle.shape.specs.Gather.{gather, any}
 use Rattle.shape.specs.Lists.{longer, uneven, meshFault}
 use Rattle.shape.specs.Refusal.{Fault, fine, fault, refuse, Answer, taken, refused, judge, leaves}
 use Rattle.shape.specs.Laws.Gather.{gather-most}
-use Rattle.lookup.specs.Index.{indexWords, candidatesOf, buildOf, answerTo}
+use Rattle.lookup.specs.Index.{candidatesOf, buildOf, answerTo}
 use Rattle.lookup.specs.Demand3.{BuiltFrom}
 use Rattle.lookup.specs.Sampler.{Sample, hit, miss, sampleIn, topOf}
-use Rattle.lookup.specs.Laws.Limits.{judged}
 use Rattle.lookup.specs.Laws.Demand3.{top-taken, words-fit}
 use Rattle.surface.specs.declared.file.Copied.{Copied}
 use Rattle.surface.specs.declared.file.Copied.the-variants.{Count}

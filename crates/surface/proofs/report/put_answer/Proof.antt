@@ -1,9 +1,6 @@
 -- `surface::report::put_answer` meets its contract: the case of the answer picks the line. Assumes nothing.
-use mathlib.Core.Path.{_≡_, sym, _∙_}
-use Prim.Native.Nat.{_<_}
 use native.Mathlib.Omega.{arith}
 use denote.Ref.{now}
-use Rattle.shape.specs.Laws.Memory.{put-length}
 use Rattle.surface.proofs.Telling.{was-found, was-none, was-refused, triangle-small, tells-found, tells-none}
 use borrow.Author.Needs.{needs}
 use Rattle.surface.proofs.report.put_answer.Statement.{statement}

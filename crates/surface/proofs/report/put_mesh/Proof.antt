@@ -1,6 +1,5 @@
 -- `surface::report::put_mesh` meets its contract: what building answered picks the text. Assumes nothing.
-use mathlib.Core.Path.{_≡_}
-use Prim.Native.Nat.{ℕ, _<_}
+use Prim.Native.Nat.{ℕ}
 use native.Mathlib.Omega.{arith}
 use lib.ListN.{length-replicate}
 use Rattle.surface.proofs.Reporting.{built-refused, built-words, place-small, index-front, index-length, front-fits}

@@ -1,10 +1,8 @@
 -- `surface::report::put_report` meets its contract: what reading answered picks the text. Assumes nothing.
-use mathlib.Core.Path.{_≡_, sym}
-use Prim.Native.Nat.{ℕ, _≤_}
+use Prim.Native.Nat.{ℕ}
 use native.Mathlib.Omega.{arith}
 use denote.Ref.{now}
 use lib.ListN.{length, length-replicate}
-use Rattle.surface.specs.ReportSteps.{surfaceText}
 use Rattle.surface.proofs.Reporting.{read-place, read-refused, read-text, read-few, read-front, read-length, front-fits}
 use borrow.Author.Needs.{needs}
 use Rattle.surface.proofs.report.put_report.Statement.{statement}

@@ -1,6 +1,5 @@
 -- `surface::report::put_surface` meets its contract. Assumes nothing.
 use native.Mathlib.Omega.{arith}
-use denote.Ref.{now}
 use Rattle.shape.specs.Laws.Memory.{put-front}
 use Rattle.surface.specs.Laws.Held.{sized}
 use Rattle.surface.proofs.Reporting.{put-part, put-fits}

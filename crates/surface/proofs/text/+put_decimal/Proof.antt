@@ -1,8 +1,7 @@
 -- `surface::text::put_decimal` meets its contract; the number itself is the measure. Assumes nothing.
-use Prim.Native.Nat.{ℕ, _+_, _/_, _≤_, _<_}
-use mathlib.Core.Path.{_≡_, sym, _∙_}
+use Prim.Native.Nat.{ℕ, _+_, _/_, _<_}
+use mathlib.Core.Path.{_∙_}
 use native.Mathlib.Omega.{arith}
-use denote.Ref.{now}
 use Rattle.shape.specs.Laws.Memory.{put-length}
 use Rattle.surface.proofs.Texts.{digits-one, digits-last, digits-end}
 use borrow.Fn.Kinds.{In}

@@ -7,7 +7,7 @@ use denote.Ref.{now}
 use lib.ListN.{length, take, length-set}
 use lib.Seq.{take-length}
 use Rattle.shape.specs.Memory.{Put}
-use Rattle.shape.specs.Laws.Memory.{put-none, put-length}
+use Rattle.shape.specs.Laws.Memory.{put-none}
 use Rattle.surface.proofs.Texts.{byte-turn}
 use Rattle.surface.proofs.text.put_bytes.Statement.{statement}
 use Rattle.surface.proofs.text.put_bytes.Tie as tie
