@@ -6,3 +6,4 @@ pub mod Visit
 pub mod Runs
 pub mod Chain
 pub mod Search
+pub mod Digits
