@@ -7,3 +7,4 @@ pub mod Runs
 pub mod Chain
 pub mod Search
 pub mod Digits
+pub mod Blocks
