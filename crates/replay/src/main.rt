@@ -5,6 +5,7 @@
 mod grid_ops;
 mod junction_ops;
 mod lent;
+mod lookup_ops;
 mod mesh_ops;
 mod names;
 mod numbers;
