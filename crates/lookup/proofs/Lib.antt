@@ -8,3 +8,4 @@ pub mod Chain
 pub mod Search
 pub mod Digits
 pub mod Blocks
+pub mod Rising
