@@ -3,7 +3,8 @@ use Prim.Native.Nat.{ℕ}
 use mathlib.Core.Path.{_≡_, refl, subst}
 use mathlib.Core.Bool.{Bool, true, false, not, _&&_}
 use mathlib.Core.Logic.{_⊎_, inl, inr, ⊎-elim}
-use lib.Dec.{T}
+use lib.Dec.{T, not-T}
+use lib.Ieee.Bits.{is-false}
 use lib.IntN.{ℤ}
 use lib.Ieee.{Float, nan, inf, fin, binary32, neg, lt, le, mul, sub, ofBits}
 use lib.Ieee.Positive.{positive}
@@ -15,6 +16,7 @@ use Rattle.rounding.specs.Laws.Products.{mul-mono-right, mul-mono-signed, mul-n
 use Rattle.rounding.specs.Laws.Sums.{sub-mono, sub-num-left}
 use Rattle.vector.specs.Single.{_⊖_, _⊗_, 1f, single}
 use Rattle.vector.specs.declared.coords.Point.{Point}
+use Rattle.lookup.specs.declared.mesh.Weights.{Weights}
 use Rattle.lookup.specs.Cover.{thinnest, slack, insideOf, detOf, weightsOf, weightA, weightB}
 
 -- 2
@@ -123,3 +125,25 @@ outside d l1 l2 h = go d (le slack l1) refl (le slack l2) refl (le slack (1f ⊖
 pub far-outside : (a b c : Point) (x y : Float) → lt four (weightA a b c x y ⊗ weightA a b c x y) ≡ true → insideOf (weightsOf a b c x y) ≡ false
 unfolding insideOf weightsOf
 far-outside a b c x y h = outside (not (lt (absOf (detOf a b c)) thinnest)) (weightA a b c x y) (weightB a b c x y) h
+
+-- ---- a weight that is too low
+
+-- one of the tests fails
+one-fails : (p a b c : Bool) → (a ≡ false) ⊎ ((b ≡ false) ⊎ (c ≡ false)) → (p && a && b && c) ≡ false
+one-fails false a b c h = refl
+one-fails true false b c h = refl
+one-fails true true false c h = refl
+one-fails true true true false h = refl
+one-fails true true true true (inl e) = e
+one-fails true true true true (inr (inl e)) = e
+one-fails true true true true (inr (inr e)) = e
+
+low-fails : (x : Float) → lt x slack ≡ true → le slack x ≡ false
+low-fails x h = is-false (le slack x) (not-T (le slack x) (lt→not-le x slack (T-of h)))
+
+-- the lesser of two weights, and of that and the third
+pub low-outside : (w : Weights) (l m : Float) → (l ≡ w .a) ⊎ (l ≡ w .b) → (m ≡ l) ⊎ (m ≡ w .c) → lt m slack ≡ true → insideOf w ≡ false
+unfolding insideOf
+low-outside w l m h (inr k) e = one-fails (not (lt (absOf (w .det)) thinnest)) (le slack (w .a)) (le slack (w .b)) (le slack (w .c)) (inr (inr (low-fails (w .c) (subst (λ (z : Float). lt z slack ≡ true) k e))))
+low-outside w l m (inl h) (inl k) e = one-fails (not (lt (absOf (w .det)) thinnest)) (le slack (w .a)) (le slack (w .b)) (le slack (w .c)) (inl (low-fails (w .a) (subst (λ (z : Float). lt z slack ≡ true) h (subst (λ (z : Float). lt z slack ≡ true) k e))))
+low-outside w l m (inr h) (inl k) e = one-fails (not (lt (absOf (w .det)) thinnest)) (le slack (w .a)) (le slack (w .b)) (le slack (w .c)) (inr (inl (low-fails (w .b) (subst (λ (z : Float). lt z slack ≡ true) h (subst (λ (z : Float). lt z slack ≡ true) k e)))))

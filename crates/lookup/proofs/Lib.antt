@@ -7,3 +7,6 @@ pub mod Runs
 pub mod Chain
 pub mod Search
 pub mod Batches
+pub mod Digits
+pub mod Blocks
+pub mod Rising

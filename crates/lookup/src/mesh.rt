@@ -2,6 +2,7 @@
 // coordinates and the normals' in threes, the triangles' vertex numbers in threes, and the lanes' spans.
 ghost use mathlib.Core.Path.{_≡_};
 ghost use mathlib.Core.Bool.{true, false};
+ghost use mathlib.Core.Logic.{_⊎_};
 ghost use Prim.Native.Nat.{_+_, _*_, _<_, _^_};
 ghost use lib.ListN.{length};
 ghost use Rattle.shape.specs.Lists.{pointAt, meshLists};
@@ -145,7 +146,25 @@ fn far(a: Point, b: Point, c: Point, x: f32, y: f32) -> bool
     l1 * l1 > 4.0
 }
 
+// The lesser of two numbers; the second where one is a NaN. It takes no branch.
+fn lesser(x: f32, y: f32) -> f32
+    ensures { λ r. ⌜ (r ≡ x) ⊎ (r ≡ y) ⌝ }
+{
+    if x < y {
+        return x;
+    }
+    y
+}
+
 impl Weights {
+    // Is a weight too low? A NaN among them is left to the full test. Of a cell's triangles nearly all go by
+    // this one test, where a test for each weight would go now this way and now that.
+    fn outside(self) -> bool
+        ensures { λ r. ⌜ (r ≡ true → insideOf self ≡ false) ⌝ }
+    {
+        lesser(lesser(self.a, self.b), self.c) < -1e-4
+    }
+
     // Has the triangle a footprint, and does the point lie in it? A NaN among the weights fails its test.
     pub fn inside(self) -> bool
         ensures { λ r. ⌜ r ≡ insideOf self ⌝ }
@@ -269,10 +288,10 @@ pub fn highest(vertices: &[f32], indices: &[u32], run: &[u32], x: f32, y: f32) -
         let Fetch::Corners(a, b, c) = corners(vertices, indices, t) else {
             continue;
         };
-        if far(a, b, c, x, y) {
+        let w = weigh(a, b, c, x, y);
+        if w.outside() {
             continue;
         }
-        let w = weigh(a, b, c, x, y);
         if !w.inside() {
             continue;
         }

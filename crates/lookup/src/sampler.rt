@@ -1,11 +1,13 @@
 // The indexed lookup: the highest of the point's candidates, with the lane that its triangle belongs to.
 ghost use mathlib.Core.Path.{_≡_};
 ghost use mathlib.Core.List.{[], _∷_};
+ghost use mathlib.Core.Bool.{true, false};
 ghost use Prim.Native.Nat.{_+_, _*_, _/_, _<_, _≤_};
 ghost use lib.Dec.{eqb};
 ghost use lib.ListN.{length};
+ghost use Rattle.shape.specs.Gather.{any};
 ghost use Rattle.shape.specs.Refusal.{fine, found, numberOf, placeOf, leaves};
-ghost use Rattle.shape.specs.Lists.{meshLists};
+ghost use Rattle.shape.specs.Lists.{runBad, meshFault, meshLists};
 ghost use Rattle.shape.specs.Memory.{Put};
 ghost use Rattle.lookup.specs.Sampler.{EndsRise, pastOf, laneOf, topFault, readSampled, topOf};
 ghost use Rattle.lookup.specs.Batch.{wordFor, laneThere, laneId, cutRecord, recordAt, recordsOf, topsOf, readSampling};
@@ -88,6 +90,87 @@ fn oversize(r: Refusal) -> bool
     }
 }
 
+fn wide(x: u32) -> usize
+    ensures { λ r. ⌜ r ≡ x ⌝ }
+{
+    x as usize
+}
+
+// Do the runs of m spans rise, each start from the last end and each end from its start, and do they
+// keep within n vertices and k indices? Asked at every lookup, so in one pass.
+fn runs_rise(spans: &[u32], n: usize, k: usize, m: usize) -> bool
+    requires { ⌜ (m ≤ 1024) × (5 * m ≤ length (now spans)) ⌝ }
+    ensures { λ r. ⌜ (r ≡ true → (any (runBad 5 1 (now (spans .entry)) n) m ≡ false) × (any (runBad 5 3 (now (spans .entry)) k) m ≡ false)) ⌝ }
+{
+    let mut vertex: usize = 0;
+    let mut index: usize = 0;
+    let mut i: usize = 0;
+    while i < m {
+        let at = 5 * i;
+        let a = wide(spans[at + 1]);
+        let b = wide(spans[at + 2]);
+        let c = wide(spans[at + 3]);
+        let d = wide(spans[at + 4]);
+        if a < vertex {
+            return false;
+        }
+        if b < a {
+            return false;
+        }
+        if c < index {
+            return false;
+        }
+        if d < c {
+            return false;
+        }
+        vertex = b;
+        index = d;
+        i += 1;
+    }
+    if n < vertex {
+        return false;
+    }
+    index <= k
+}
+
+// Are the four lists of a mesh in order? No where they are long or uneven; `mesh_fault` then tells why.
+fn in_order(vertices: &[f32], normals: &[f32], indices: &[u32], spans: &[u32]) -> bool
+    ensures { λ r. ⌜ (r ≡ true → meshFault (meshLists (now (vertices .entry)) (now (normals .entry)) (now (indices .entry)) (now (spans .entry))) ≡ fine) ⌝ }
+{
+    if 3 * 65536 < vertices.len() {
+        return false;
+    }
+    if 3 * 65536 < normals.len() {
+        return false;
+    }
+    if 196608 < indices.len() {
+        return false;
+    }
+    if 5 * 1024 < spans.len() {
+        return false;
+    }
+    if vertices.len() % 3 != 0 {
+        return false;
+    }
+    if normals.len() % 3 != 0 {
+        return false;
+    }
+    if spans.len() % 5 != 0 {
+        return false;
+    }
+    runs_rise(spans, vertices.len() / 3, indices.len(), spans.len() / 5)
+}
+
+// Why the four lists of a mesh are turned back, if they are.
+fn mesh_check(vertices: &[f32], normals: &[f32], indices: &[u32], spans: &[u32]) -> Check
+    ensures { λ r. ⌜ found r ≡ meshFault (meshLists (now (vertices .entry)) (now (normals .entry)) (now (indices .entry)) (now (spans .entry))) ⌝ }
+{
+    if in_order(vertices, normals, indices, spans) {
+        return Check::Fine;
+    }
+    mesh_fault(vertices, normals, indices, spans)
+}
+
 // Why the five lists are turned back, if they are: the index's limit comes after the mesh's and before
 // what is ragged.
 fn top_fault(
@@ -99,7 +182,7 @@ fn top_fault(
 ) -> Check
     ensures { λ r. ⌜ found r ≡ topFault (meshLists (now (vertices .entry)) (now (normals .entry)) (now (indices .entry)) (now (spans .entry))) (now (index .entry)) ⌝ }
 {
-    let check = mesh_fault(vertices, normals, indices, spans);
+    let check = mesh_check(vertices, normals, indices, spans);
     if index.len() <= 4194304 {
         return check;
     }

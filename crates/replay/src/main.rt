@@ -5,10 +5,12 @@
 mod grid_ops;
 mod junction_ops;
 mod lent;
+mod lookup_ops;
 mod mesh_ops;
 mod names;
 mod numbers;
 mod outline_ops;
+mod probe_ops;
 mod rounding_ops;
 mod shape_ops;
 mod stream;

@@ -1,11 +1,13 @@
-// The operations of the shape layer over words. An operation's number is its place in the oracle's
+// The operations of the layers from the shapes on over words. An operation's number is its place in the oracle's
 // list, and a number 300 higher is the same operation, for cases at its limits. Of a call on lent lists
 // the case gives these, and the room in each output. The answer is 0 and what the call answers, or a
 // refusal's number and place; and then the lent memory whole.
 use crate::grid_ops;
 use crate::junction_ops;
+use crate::lookup_ops;
 use crate::mesh_ops;
 use crate::outline_ops;
+use crate::probe_ops;
 use crate::verdict_ops;
 
 fn call(op: u32, given: &[u32], made: &mut [u32]) -> usize {
@@ -19,6 +21,8 @@ fn call(op: u32, given: &[u32], made: &mut [u32]) -> usize {
         35 => junction_ops::junction_case(given, made),
         36 => mesh_ops::surface_case(given, made),
         37 => verdict_ops::validate_case(given, made),
+        38..=41 => lookup_ops::lookup_case(op, given, made),
+        42 => probe_ops::probe_case(given, made),
         _ => 0,
     }
 }

@@ -47,20 +47,20 @@ loop-less c = omega (arith, c .before .before .before .before .before)
 loop-again : tie.Need-loop-again Inv-loop μ-loop
 loop-again c = (omega (arith, c .before .before .before .before .before), passed-missing _ _ _ _ _ _ (c .before .before .before .wide .ensures) _ (c .before .before .before .before .before .before .loop .inv .1) (sym (c .enum-told .given .1) ∙ c .before .before .corners .ensures))
 
-far-requires : tie.Need-far-requires Inv-loop μ-loop
-far-requires c κs = search needs
-
-add-i-2 : tie.Need-add-i-2 Inv-loop μ-loop
-add-i-2 c = omega (arith, c .before .before .before .before .before .before .before .before)
-
-loop-less-2 : tie.Need-loop-less-2 Inv-loop μ-loop
-loop-less-2 c = omega (arith, c .before .before .before .before .before .before .before .before)
-
-loop-again-2 : tie.Need-loop-again-2 Inv-loop μ-loop
-loop-again-2 c = (omega (arith, c .before .before .before .before .before .before .before .before), passed-outside _ _ _ _ _ _ (c .before .before .before .before .before .before .wide .ensures) _ (c .before .before .before .before .before .before .before .before .before .loop .inv .1) (sym (c .before .before .before .a .given .1) ∙ c .before .before .before .before .before .corners .ensures) (c .before .far .ensures (c .if1 .taken)))
-
 weigh-requires : tie.Need-weigh-requires Inv-loop μ-loop
 weigh-requires c κs = search needs
+
+outside-requires : tie.Need-outside-requires Inv-loop μ-loop
+outside-requires c κs = search needs
+
+add-i-2 : tie.Need-add-i-2 Inv-loop μ-loop
+add-i-2 c = omega (arith, c .before .before .before .before .before .before .before .before .before)
+
+loop-less-2 : tie.Need-loop-less-2 Inv-loop μ-loop
+loop-less-2 c = omega (arith, c .before .before .before .before .before .before .before .before .before)
+
+loop-again-2 : tie.Need-loop-again-2 Inv-loop μ-loop
+loop-again-2 c = (omega (arith, c .before .before .before .before .before .before .before .before .before), passed-outside _ _ _ _ _ _ (c .before .before .before .before .before .before .before .wide .ensures) _ (c .before .before .before .before .before .before .before .before .before .before .loop .inv .1) (sym (c .before .before .before .before .a .given .1) ∙ c .before .before .before .before .before .before .corners .ensures) (rw (← c .before .before .weigh .ensures) (c .before .outside .ensures (c .if1 .taken))))
 
 inside-requires : tie.Need-inside-requires Inv-loop μ-loop
 inside-requires c κs = search needs
@@ -72,7 +72,7 @@ loop-less-3 : tie.Need-loop-less-3 Inv-loop μ-loop
 loop-less-3 c = omega (arith, c .before .before .before .before .before .before .before .before .before .before .before)
 
 loop-again-3 : tie.Need-loop-again-3 Inv-loop μ-loop
-loop-again-3 c = (omega (arith, c .before .before .before .before .before .before .before .before .before .before .before), passed-outside _ _ _ _ _ _ (c .before .before .before .before .before .before .before .before .before .wide .ensures) _ (c .before .before .before .before .before .before .before .before .before .before .before .before .loop .inv .1) (sym (c .before .before .before .before .before .before .a .given .1) ∙ c .before .before .before .before .before .before .before .before .corners .ensures) (rw (← c .before .before .weigh .ensures) (sym (c .before .inside .ensures) ∙ not-true _ (c .if2 .taken))))
+loop-again-3 c = (omega (arith, c .before .before .before .before .before .before .before .before .before .before .before), passed-outside _ _ _ _ _ _ (c .before .before .before .before .before .before .before .before .before .wide .ensures) _ (c .before .before .before .before .before .before .before .before .before .before .before .before .loop .inv .1) (sym (c .before .before .before .before .before .before .a .given .1) ∙ c .before .before .before .before .before .before .before .before .corners .ensures) (rw (← c .before .before .before .before .weigh .ensures) (sym (c .before .inside .ensures) ∙ not-true _ (c .if2 .taken))))
 
 height-requires : tie.Need-height-requires Inv-loop μ-loop
 height-requires c κs = search needs
@@ -87,7 +87,7 @@ loop-less-4 : tie.Need-loop-less-4 Inv-loop μ-loop
 loop-less-4 c = omega (arith, c .before .before .before .before .before .before .before .before .before .before .before .before .before)
 
 loop-again-4 : tie.Need-loop-again-4 Inv-loop μ-loop
-loop-again-4 c = (omega (arith, c .before .before .before .before .before .before .before .before .before .before .before .before .before), c .higher .ensures ∙ rw (c .before .height .ensures, c .before .before .before .before .weigh .ensures) (taken-inside _ _ _ _ _ _ (c .before .before .before .before .before .before .before .before .before .before .before .wide .ensures) _ (c .before .before .before .before .before .before .before .before .before .before .before .before .before .before .loop .inv .1) (sym (c .before .before .before .before .before .before .before .before .a .given .1) ∙ c .before .before .before .before .before .before .before .before .before .before .corners .ensures) (rw (← c .before .before .before .before .weigh .ensures) (sym (c .before .before .before .inside .ensures) ∙ not-false _ (c .before .before .if2 .left)))))
+loop-again-4 c = (omega (arith, c .before .before .before .before .before .before .before .before .before .before .before .before .before), c .higher .ensures ∙ rw (c .before .height .ensures, c .before .before .before .before .before .before .weigh .ensures) (taken-inside _ _ _ _ _ _ (c .before .before .before .before .before .before .before .before .before .before .before .wide .ensures) _ (c .before .before .before .before .before .before .before .before .before .before .before .before .before .before .loop .inv .1) (sym (c .before .before .before .before .before .before .before .before .a .given .1) ∙ c .before .before .before .before .before .before .before .before .before .before .corners .ensures) (rw (← c .before .before .before .before .before .before .weigh .ensures) (sym (c .before .before .before .inside .ensures) ∙ not-false _ (c .before .before .if2 .left)))))
 
 returns : tie.Need-returns Inv-loop μ-loop
 returns c = let e : c .before .loop .i ≡ length (c .before .before .before .before .before .args .run .now) = omega arith in rw (← e) (c .before .loop .inv .1)
@@ -108,11 +108,11 @@ highest-spec =
     add-i
     loop-less
     loop-again
-    far-requires
+    weigh-requires
+    outside-requires
     add-i-2
     loop-less-2
     loop-again-2
-    weigh-requires
     inside-requires
     add-i-3
     loop-less-3

@@ -46,11 +46,11 @@ module _ (m : Mesh) (ws : List ℕ) {k : Check} (e : found k ≡ meshFault m) (l
 abbrev M : tie.Start → Mesh
 M s = meshLists (s .args .vertices .now) (s .args .normals .now) (s .args .indices .now) (s .args .spans .now)
 
-mesh-fault-requires : tie.Need-mesh-fault-requires
-mesh-fault-requires c κs = search needs
+mesh-check-requires : tie.Need-mesh-check-requires
+mesh-check-requires c κs = search needs
 
 returns : tie.Need-returns
-returns c = c .before .mesh-fault .ensures ∙ sym (short-index (M (c .before .before .before .before .before .before .before)) (c .before .before .before .before .before .before .before .args .index .now) (c .if1 .taken))
+returns c = c .before .mesh-check .ensures ∙ sym (short-index (M (c .before .before .before .before .before .before .before)) (c .before .before .before .before .before .before .before .args .index .now) (c .if1 .taken))
 
 enum-known-check : tie.Need-enum-known-check
 enum-known-check c = search needs
@@ -59,22 +59,22 @@ oversize-requires : tie.Need-oversize-requires
 oversize-requires c κs = search needs
 
 returns-2 : tie.Need-returns-2
-returns-2 c = first (M (c .before .before .before .before .before .before .before .before .before .before .before .before)) (c .before .before .before .before .before .before .before .before .before .before .before .before .args .index .now) (c .before .before .before .before .before .before .mesh-fault .ensures) (c .before .before .before .before .before .if1 .left) (c .before .before .before .check .given .1) (sym (c .before .oversize .ensures) ∙ c .if2 .taken)
+returns-2 c = first (M (c .before .before .before .before .before .before .before .before .before .before .before .before)) (c .before .before .before .before .before .before .before .before .before .before .before .before .args .index .now) (c .before .before .before .before .before .before .mesh-check .ensures) (c .before .before .before .before .before .if1 .left) (c .before .before .before .check .given .1) (sym (c .before .oversize .ensures) ∙ c .if2 .taken)
 
 enum-told : tie.Need-enum-told
 enum-told c = search needs
 
 returns-3 : tie.Need-returns-3
-returns-3 c = other (M (c .before .before .before .before .before .before .before .before .before .before .before .before)) (c .before .before .before .before .before .before .before .before .before .before .before .before .args .index .now) (c .before .before .before .before .before .before .mesh-fault .ensures) (c .before .before .before .before .before .if1 .left) (c .before .before .before .check .given .1) (sym (c .before .oversize .ensures) ∙ c .if2 .left)
+returns-3 c = other (M (c .before .before .before .before .before .before .before .before .before .before .before .before)) (c .before .before .before .before .before .before .before .before .before .before .before .before .args .index .now) (c .before .before .before .before .before .before .mesh-check .ensures) (c .before .before .before .before .before .if1 .left) (c .before .before .before .check .given .1) (sym (c .before .oversize .ensures) ∙ c .if2 .left)
 
 returns-4 : tie.Need-returns-4
-returns-4 c = none (M (c .before .before .before .before .before .before .before .before .before)) (c .before .before .before .before .before .before .before .before .before .args .index .now) (c .before .before .before .mesh-fault .ensures) (c .before .before .if1 .left) (c .enum-told .given .1)
+returns-4 c = none (M (c .before .before .before .before .before .before .before .before .before)) (c .before .before .before .before .before .before .before .before .before .args .index .now) (c .before .before .before .mesh-check .ensures) (c .before .before .if1 .left) (c .enum-told .given .1)
 
 pub top-fault-spec : {M : Type 1} → statement M
 top-fault-spec =
     tie.close
     (tie.spec
-    mesh-fault-requires
+    mesh-check-requires
     returns
     enum-known-check
     oversize-requires
