@@ -1,6 +1,7 @@
 /* The road-surface library: roads and junctions made into triangles, and the height and tilt of the
- * road under a wheel. Link with libroadsurface.a (built by `rt staticlib roadsurface`). Every function
- * is proved to do what is said here; the contracts stand in crates/roadsurface/src/lib.rt.
+ * road under a wheel. Link with libroadsurface.a (built by `rt staticlib roadsurface`). What each
+ * function answers and what it leaves in the memory it is lent is proved; the contracts stand in
+ * crates/roadsurface/src/lib.rt, and this page says them in plain words.
  *
  * What is lent. A list is a pointer and a count of elements. A pointer is aligned for its type and
  * points to that many elements; with a count of 0 nothing is read or written through it. What is
