@@ -1,9 +1,10 @@
 /* The road-surface library: roads and junctions made into triangles, and the height and tilt of the
- * road under a wheel. Link with libroadsurface.a (built by `rt staticlib roadsurface`). Every function
- * is proved to do what is said here; the contracts stand in crates/roadsurface/src/lib.rt.
+ * road under a wheel. Link with libroadsurface.a (built by `rt staticlib roadsurface`). What each
+ * function answers and what it leaves in the memory it is lent is proved; the contracts stand in
+ * crates/roadsurface/src/lib.rt, and this page says them in plain words.
  *
  * What is lent. A list is a pointer and a count of elements. A pointer is aligned for its type and
- * points to that many elements; with a count of 0 it may point anywhere, and nothing is read. What is
+ * points to that many elements; with a count of 0 nothing is read or written through it. What is
  * written (`ring`, `ears`, `vertices`, .., `records`, `answer`) overlaps nothing else that is lent in
  * the same call. Nothing is kept after a call, no memory is taken, and calls of several threads do not
  * meet unless they are lent the same output.
@@ -24,7 +25,7 @@
  *   RS_SHORT_OUTPUT   an output smaller than the result; place: the count wanted, in elements
  * An `answer` of too few words is RS_SHORT_OUTPUT, before everything else. Oversize results come after
  * what is ragged or foreign and before a short output. A place that 32 bits do not hold is told as
- * ffffffff; only rs_tops has one, for more than 2^29 points.
+ * ffffffff; only rs_tops has one, for 2^29 points or more.
  *
  * Lists of records are words, floats in them by their bits:
  *   lane     10 words: id; start and end of its run of points, of tangents, of widths, of banks; default width
