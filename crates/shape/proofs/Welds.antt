@@ -14,18 +14,8 @@ use Rattle.rounding.specs.Laws.Order.{T-of, le-trans, lt-of-le-of-lt, lt-of-lt-
 use Rattle.rounding.specs.Laws.Extremes.{max-picks}
 use Rattle.rounding.specs.Laws.Products.{mul-mono-right}
 use Rattle.rounding.specs.Laws.RootOrder.{nought, sqrt-mono}
-use Rattle.vector.specs.Single.{_⊗_, single, 0f, 1f}
+use Rattle.vector.specs.Single.{_⊗_, single, 0f}
 use Rattle.shape.specs.Strip.{quarter, keepsStep}
-
--- 15, 16 and 255
-abbrev 15f : Float
-15f = single 0x4170_0000
-
-abbrev 16f : Float
-16f = single 0x4180_0000
-
-abbrev 255f : Float
-255f = single 0x437f_0000
 
 so : (b : Bool) → T b → b ≡ true
 so true h = refl
@@ -49,10 +39,24 @@ module _ (c d q l : Float) (C : T (le nought c)) (D : T (le tenth (quarter ⊗ s
       (lt-of-le-of-lt (maxOf (quarter ⊗ sqrtOf binary32 l) tenth) (quarter ⊗ sqrtOf binary32 d) (sqrtOf binary32 q) most-step
       (lt-of-lt-of-le (quarter ⊗ sqrtOf binary32 d) (sqrtOf binary32 c) (sqrtOf binary32 q) E (sqrt-mono binary32 c q C up)))
 
-pub keeps-16 : (q l : Float) → le 16f q ≡ true → le 0f l ≡ true → le l 255f ≡ true → keepsStep (sqrtOf binary32 l) (sqrtOf binary32 q) ≡ true
-unfolding Ieee.ofBits Ieee.ofFields Ieee.odd Ieee.mul Ieee.le Ieee.lt Ieee.eq Ieee.round Ieee.units Ieee.span Ieee.climb Ieee.size trailingZeros Root.rootIn Root.isqrt Root.rootOf Root.sqrtOf
-keeps-16 q l a b c = long-step 16f 255f q l tt tt tt (T-of a) (T-of b) (T-of c)
+-- squares of which the first is clearly above a sixteenth of the second
 
-pub keeps-1 : (q l : Float) → le 1f q ≡ true → le 0f l ≡ true → le l 15f ≡ true → keepsStep (sqrtOf binary32 l) (sqrtOf binary32 q) ≡ true
+-- 0.07 after 1
+pub keeps-one : (q l : Float) → le 0f l ≡ true → le l (single 0x3f80_0000) ≡ true → le (single 0x3d8f_5c29) q ≡ true → keepsStep (sqrtOf binary32 l) (sqrtOf binary32 q) ≡ true
 unfolding Ieee.ofBits Ieee.ofFields Ieee.odd Ieee.mul Ieee.le Ieee.lt Ieee.eq Ieee.round Ieee.units Ieee.span Ieee.climb Ieee.size trailingZeros Root.rootIn Root.isqrt Root.rootOf Root.sqrtOf
-keeps-1 q l a b c = long-step 1f 15f q l tt tt tt (T-of a) (T-of b) (T-of c)
+keeps-one q l a b c = long-step (single 0x3d8f_5c29) (single 0x3f80_0000) q l tt tt tt (T-of c) (T-of a) (T-of b)
+
+-- 0.6 after 8
+pub keeps-two : (q l : Float) → le 0f l ≡ true → le l (single 0x4100_0000) ≡ true → le (single 0x3f19_999a) q ≡ true → keepsStep (sqrtOf binary32 l) (sqrtOf binary32 q) ≡ true
+unfolding Ieee.ofBits Ieee.ofFields Ieee.odd Ieee.mul Ieee.le Ieee.lt Ieee.eq Ieee.round Ieee.units Ieee.span Ieee.climb Ieee.size trailingZeros Root.rootIn Root.isqrt Root.rootOf Root.sqrtOf
+keeps-two q l a b c = long-step (single 0x3f19_999a) (single 0x4100_0000) q l tt tt tt (T-of c) (T-of a) (T-of b)
+
+-- 5 after 64
+pub keeps-three : (q l : Float) → le 0f l ≡ true → le l (single 0x4280_0000) ≡ true → le (single 0x40a0_0000) q ≡ true → keepsStep (sqrtOf binary32 l) (sqrtOf binary32 q) ≡ true
+unfolding Ieee.ofBits Ieee.ofFields Ieee.odd Ieee.mul Ieee.le Ieee.lt Ieee.eq Ieee.round Ieee.units Ieee.span Ieee.climb Ieee.size trailingZeros Root.rootIn Root.isqrt Root.rootOf Root.sqrtOf
+keeps-three q l a b c = long-step (single 0x40a0_0000) (single 0x4280_0000) q l tt tt tt (T-of c) (T-of a) (T-of b)
+
+-- 40 after 512
+pub keeps-four : (q l : Float) → le 0f l ≡ true → le l (single 0x4400_0000) ≡ true → le (single 0x4220_0000) q ≡ true → keepsStep (sqrtOf binary32 l) (sqrtOf binary32 q) ≡ true
+unfolding Ieee.ofBits Ieee.ofFields Ieee.odd Ieee.mul Ieee.le Ieee.lt Ieee.eq Ieee.round Ieee.units Ieee.span Ieee.climb Ieee.size trailingZeros Root.rootIn Root.isqrt Root.rootOf Root.sqrtOf
+keeps-four q l a b c = long-step (single 0x4220_0000) (single 0x4400_0000) q l tt tt tt (T-of c) (T-of a) (T-of b)

@@ -106,17 +106,23 @@ fn put_word(out: &mut [u32], at: usize, v: usize)
     out[at] = v as u32;
 }
 
-// Is a step of the square `square` long enough, after one of the square `last`, for no root to be taken?
-// Most are: at least 4 after one below 16, or at least 1 after one below 3.8.
+// Is a step of the square `square` clearly above a quarter of one of the square `last`, so that no root
+// is taken? Steps of about one length, from 0.27 to 22, always are.
 fn clearly_kept(square: f32, last: f32) -> bool
     ensures { λ r. ⌜ (r ≡ true → keepsStep (sqrtOf binary32 last) (sqrtOf binary32 square) ≡ true) ⌝ }
 {
     if last >= 0.0 {
-        if square >= 16.0 {
-            return last <= 255.0;
+        if last <= 1.0 {
+            return square >= 0.07;
         }
-        if square >= 1.0 {
-            return last <= 15.0;
+        if last <= 8.0 {
+            return square >= 0.6;
+        }
+        if last <= 64.0 {
+            return square >= 5.0;
+        }
+        if last <= 512.0 {
+            return square >= 40.0;
         }
         return false;
     }
