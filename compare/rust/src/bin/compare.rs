@@ -13,6 +13,21 @@ fn hex(w: &[u32]) -> String {
     w.iter().take(200).map(|x| format!("{x:08x} ")).collect()
 }
 
+/// A mesh that is past a limit of document 01: the call must be turned back with the first such limit.
+fn past_limit(op: &str, mesh: &[u32]) -> Option<u32> {
+    if op != "junction_mesh" && op != "surface_mesh" {
+        return None;
+    }
+    let mut at = 0;
+    for (size, limit) in [(3, 65_536), (3, 65_536), (1, 196_608), (5, 1024)] {
+        if mesh[at] > limit {
+            return Some(limit);
+        }
+        at += 1 + size * mesh[at] as usize;
+    }
+    None
+}
+
 fn main() {
     let args: Vec<String> = std::env::args().collect();
     let numbers = args.get(1).and_then(|s| s.parse::<u64>().ok()).zip(args.get(2).and_then(|s| s.parse::<u64>().ok()));
@@ -21,13 +36,13 @@ fn main() {
         std::process::exit(2);
     };
     let named = &args[3..];
-    println!("| operation | seed | cases | differing |\n|---|---|---|---|");
+    println!("| operation | seed | cases | past a result's limit | differing |\n|---|---|---|---|---|");
     let mut all = 0;
     for &op in answers::OPS {
         if !named.is_empty() && !named.iter().any(|n| n == op) {
             continue;
         }
-        let mut differing = 0u64;
+        let (mut past, mut differing) = (0u64, 0u64);
         let cases = thousands * 1000;
         for k in 0..cases {
             let case = oracle::gen::case(op, seed, k).expect(op);
@@ -35,6 +50,12 @@ fn main() {
             let theirs = oracle::ops::run(op, &stream).expect(op);
             let mut ours = Out::default();
             let said = answers::one(op, &mut In::new(&case), &mut ours);
+            if let Some(limit) = past_limit(op, &theirs[1..]) {
+                past += 1;
+                if said == Err(format!("refused 1 at {limit}")) {
+                    continue;
+                }
+            }
             if said.is_err() || ours.words != theirs[1..] {
                 differing += 1;
                 if differing <= 3 {
@@ -42,7 +63,7 @@ fn main() {
                 }
             }
         }
-        println!("| {op} | {seed} | {cases} | {differing} |");
+        println!("| {op} | {seed} | {cases} | {past} | {differing} |");
         all += differing;
     }
     all += turned_back(seed, thousands, named);
