@@ -30,6 +30,14 @@ fn take_bytes(words: &[u32], bytes: &mut [u8]) {
     }
 }
 
+// The first n bytes, or all.
+fn front_bytes(bytes: &[u8], n: usize) -> &[u8] {
+    if n < bytes.len() {
+        return &bytes[..n];
+    }
+    bytes
+}
+
 // A text of n bytes, which 0s follow.
 fn put_text(text: &[u8], n: usize, made: &mut [u32]) -> usize {
     let at = put_number(made, 0, n);
@@ -45,12 +53,8 @@ fn put_text(text: &[u8], n: usize, made: &mut [u32]) -> usize {
 pub fn probe_case(given: &[u32], made: &mut [u32]) -> usize {
     let mut bytes = [0u8; 65537];
     let mut text = [0u8; 204836];
-    let n = number(given, 0);
-    if 65537 < n {
-        return 0;
-    }
     take_bytes(given, &mut bytes);
-    match report(&bytes[..n], &mut text) {
+    match report(front_bytes(&bytes, number(given, 0)), &mut text) {
         Copied::Count(k) => put_text(&text, k, made),
         Copied::Refused(r) => 0,
     }

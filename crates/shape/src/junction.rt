@@ -150,14 +150,7 @@ fn put_thrice(out: &mut [f32], at: usize, v: Vector) -> usize
 }
 
 // A triangle with its own vertices, and its normal at each.
-fn push(
-    vertices: &mut [f32],
-    normals: &mut [f32],
-    at: usize,
-    a: Point,
-    b: Point,
-    c: Point,
-) -> usize
+fn push(vertices: &mut [f32], normals: &mut [f32], at: usize, a: Point, b: Point, c: Point) -> usize
     requires { ⌜ (at + 9 ≤ length (now vertices)) × (at + 9 ≤ length (now normals)) ⌝ }
     ensures { λ r. ⌜ Put (now (vertices .entry)) (now (vertices .exit)) at (cornersOf a b c) r ⌝ }
     ensures { λ r. ⌜ Put (now (normals .entry)) (now (normals .exit)) at (normalsOf a b c) r ⌝ }
