@@ -19,8 +19,9 @@ impl Bench {
         self.words.is_empty() || self.words.iter().any(|w| name.contains(w.as_str()))
     }
 
-    /// Both bodies do `ops` operations; each is timed in turn, for about two seconds in all.
-    fn pair(&self, name: &str, ops: usize, goal: f64, mut rust: impl FnMut(), mut ours: impl FnMut()) {
+    /// Both bodies do `ops` operations; each is timed in turn, for about two seconds in all. What a body returns is freed
+    /// outside its time.
+    fn pair<T, U>(&self, name: &str, ops: usize, goal: f64, mut rust: impl FnMut() -> T, mut ours: impl FnMut() -> U) {
         if !self.wants(name) {
             return;
         }
@@ -29,11 +30,13 @@ impl Bench {
         let mut rounds = 0;
         while rounds < 9 || (begun.elapsed().as_secs_f64() < 2.0 && rounds < 2000) {
             let t = Instant::now();
-            rust();
+            let made = black_box(rust());
             a = a.min(t.elapsed().as_nanos() as f64);
+            drop(made);
             let t = Instant::now();
-            ours();
+            let made = black_box(ours());
             b = b.min(t.elapsed().as_nanos() as f64);
+            drop(made);
             rounds += 1;
         }
         let n = ops as f64;
@@ -86,7 +89,7 @@ fn lookups(b: &Bench) {
         let mut index = vec![0; 4_194_304];
         b.pair(
             &format!("building the index, {n} triangles"), 1, 0.5,
-            || { black_box(black_box(&m).sampler()); },
+            || black_box(&m).sampler(),
             || { let _ = black_box(ours::build(black_box(&l), &mut index)); },
         );
         b.pair(
@@ -105,7 +108,7 @@ fn shapes(b: &Bench) {
         let (mut v, mut n, mut i, mut s) = (vec![0.0; most], vec![0.0; most], vec![0; most], vec![0; 5 * lanes]);
         b.pair(
             &format!("surface_mesh, {lanes} lanes of {points} points"), 1, 1.2,
-            || { black_box(black_box(&net).surface_mesh()); },
+            || black_box(&net).surface_mesh(),
             || { ours::surface_mesh(black_box(&l), &mut v, &mut n, &mut i, &mut s).expect("mesh"); },
         );
     }
@@ -116,7 +119,7 @@ fn shapes(b: &Bench) {
     let (mut v, mut n, mut i) = (vec![0.0; 3 * 65_536], vec![0.0; 3 * 65_536], vec![0; 65_536]);
     b.pair(
         "junction mesh, ring of 200, grid of 9 rows", 1, 0.5,
-        || { black_box(black_box(&area).mesh()); },
+        || black_box(&area).mesh(),
         || { ours::junction_mesh(black_box(&r), Some(&g), &mut v, &mut n, &mut i).expect("mesh"); },
     );
     for (what, jag) in [("round", 0.0), ("jagged", 0.3)] {
@@ -125,7 +128,7 @@ fn shapes(b: &Bench) {
         let mut out = vec![0; 3 * 1000];
         b.pair(
             &format!("ear_clip, {what} ring of 1,000"), 1, 1.0,
-            || { black_box(ops::ear_clip(black_box(&ring))); },
+            || ops::ear_clip(black_box(&ring)),
             || { ours::ear_clip(black_box(&r), &mut out).expect("ears"); },
         );
     }
@@ -144,7 +147,7 @@ fn shapes(b: &Bench) {
         let mut out = vec![0.0; points.len()];
         b.pair(
             &format!("ring, {count} segments of {each} points"), 1, 1.0,
-            || { black_box(junction_areas::ring(black_box(&segs))); },
+            || junction_areas::ring(black_box(&segs)),
             || { ours::ring(black_box(&runs), black_box(&points), &mut out).expect("ring"); },
         );
     }
@@ -159,7 +162,7 @@ fn probes(b: &Bench) {
     let mut text = vec![0; 300_000];
     b.pair(
         &format!("probe's text, file of {} records", file.len() / 32), 1, 0.0,
-        || { black_box(surface::probe(black_box(&file))); },
+        || surface::probe(black_box(&file)),
         || { ours::report(black_box(&file), &mut text).expect("report"); },
     );
 }
