@@ -374,8 +374,8 @@ fn parabola(i: u64) -> u64 {
 fn trial(b: u64) -> u64
     ensures { λ r. ⌜ r < 2 ^ 26 ⌝ }
 {
-    let w = parabola(b / 0x1_0000 % 0x100);
-    let d = b % 0x1_0000;
+    let w = parabola((b >> 16) & 0xff);
+    let d = b & 0xffff;
     let c = w / 0x800 % 0x100_0000 + 0x4000 - w % 0x800 * d / 0x2000;
     (w / 0x8_0000_0000 + 0x2000_0000 + c * d / 0x1_0000) / 0x40
 }
@@ -386,12 +386,14 @@ fn root_normal(b: u64) -> u64
     requires { ⌜ 2 ^ 23 ≤ b ⌝ ∗ ⌜ b < 255 * 2 ^ 23 ⌝ }
     ensures { λ r. ⌜ Rooted binary32 (sqrtOf binary32 (ofBits binary32 b)) r ⌝ }
 {
-    let v = (b % 0x80_0000 + 0x80_0000) * (2 - b / 0x80_0000 % 2) * 0x80_0000;
+    let field = b >> 23;
+    let digits = b & 0x7f_ffff;
+    let v = (digits + 0x80_0000) * (2 - field % 2) * 0x80_0000;
     let r = trial(b);
     let square = r * r;
     if square < v + r {
         if v <= square + r {
-            return (b / 0x80_0000 + 125) / 2 * 0x80_0000 + r;
+            return (field + 125) / 2 * 0x80_0000 + r;
         }
     }
     root_bits(24, 127, b)

@@ -2,21 +2,28 @@
 use borrow.Author.Needs.{needs}
 use Prim.Native.Nat.{ℕ, _+_, _-_, _*_, _/_, _%_, _^_, _≤_, _<_}
 use native.Mathlib.Omega.{arith}
+use lib.Bits.{bitAnd, and-mask}
 use Rattle.rounding.proofs.RootTrial.{arc-fits, slope-fits}
 use Rattle.rounding.proofs.root.trial.Statement.{statement}
 use Rattle.rounding.proofs.root.trial.Tie as tie
 
+abbrev low : tie.After-parabola → ℕ
+low c = bitAnd (c .before .args .b) 0xffff
+
+low-is : (c : tie.After-parabola) → low c < 0x1_0000
+low-is c = rw (and-mask (c .before .args .b) 16) (omega arith)
+
 abbrev arc : tie.After-parabola → ℕ
-arc c = c .parabola .result % 0x800 * (c .before .args .b % 0x1_0000)
+arc c = c .parabola .result % 0x800 * low c
 
 abbrev slope : tie.After-parabola → ℕ
 slope c = c .parabola .result / 0x800 % 0x100_0000 + 0x4000 - arc c / 0x2000
 
 arc-is : (c : tie.After-parabola) → arc c ≤ 0x7ff * 0xffff
-arc-is c = arc-fits (c .parabola .result % 0x800) (c .before .args .b % 0x1_0000) (omega arith) (omega arith)
+arc-is c = arc-fits (c .parabola .result % 0x800) (low c) (omega arith) (low-is c)
 
-slope-is : (c : tie.After-parabola) → slope c * (c .before .args .b % 0x1_0000) ≤ 0x100_4000 * 0xffff
-slope-is c = slope-fits (slope c) (c .before .args .b % 0x1_0000) (omega arith) (omega arith)
+slope-is : (c : tie.After-parabola) → slope c * low c ≤ 0x100_4000 * 0xffff
+slope-is c = slope-fits (slope c) (low c) (omega arith) (low-is c)
 
 parabola-requires : tie.Need-parabola-requires
 parabola-requires c κs = search needs
