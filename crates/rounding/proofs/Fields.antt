@@ -76,7 +76,7 @@ unfolding ofBits
 ofBits-is f b = refl
 
 -- of a number that is not negative
-ofBits-pos : (f : Format) (b : ℕ) → b < top f → ofBits f b ≡ ofFields f false (b / hid f) (b % hid f)
+pub ofBits-pos : (f : Format) (b : ℕ) → b < top f → ofBits f b ≡ ofFields f false (b / hid f) (b % hid f)
 ofBits-pos f b h =
     ofBits-is f b
     ∙ ap (λ (s : Bool). ofFields f s (b % top f / hid f) (b % hid f)) (is-false (leb (top f) b) (lt→nleb (top f) b h))

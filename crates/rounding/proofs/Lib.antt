@@ -4,6 +4,7 @@ pub mod Pattern
 pub mod RootLaw
 pub mod RootScaled
 pub mod Fields
+pub mod RootTrial
 pub mod Cut
 pub mod Sign
 pub mod Pack
@@ -13,4 +14,3 @@ pub mod Words
 pub mod Choosing
 pub mod Counting
 pub mod Widening
-pub mod NearOne

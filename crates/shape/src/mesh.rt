@@ -9,7 +9,7 @@ ghost use lib.Seq.{sets};
 ghost use Rattle.rounding.specs.Root.{sqrtOf};
 ghost use Rattle.rounding.specs.Thresholds.{micro};
 ghost use Rattle.vector.specs.Single.{single};
-ghost use Rattle.vector.specs.Coords.{vectorAdd, normalizeOrZero};
+ghost use Rattle.vector.specs.Coords.{vectorAdd, normalizeOr, normalizeOrZero};
 ghost use Rattle.shape.specs.Gather.{any};
 ghost use Rattle.shape.specs.Memory.{Put};
 ghost use Rattle.shape.specs.Refusal.{found, fine};
@@ -82,6 +82,7 @@ use rounding::extremes::clamp32;
 use rounding::extremes::is_finite32;
 use rounding::extremes::max32;
 use rounding::extremes::min32;
+use rounding::root::root_near_one;
 use rounding::root::sqrt32;
 use vector::coords::Point;
 use vector::coords::Vector;
@@ -283,12 +284,11 @@ fn between(inc: Vector, out: Vector) -> Vector
     inc.add(out).normalize_or_zero()
 }
 
-// Along the lane. The way between the legs is worked out only where the tangent has no direction.
-fn along(tangents: &[f32], k: usize, inc: Vector, out: Vector) -> Vector
-    requires { ⌜ k < 2 ^ 32 ⌝ }
-    ensures { λ r. ⌜ r ≡ alongOf (now (tangents .entry)) k inc out ⌝ }
+// Along the lane, by the tangent t. The way between the legs is worked out only where the tangent has no
+// direction.
+fn along_any(t: Vector, inc: Vector, out: Vector) -> Vector
+    ensures { λ r. ⌜ r ≡ normalizeOr t (normalizeOrZero (vectorAdd inc out)) ⌝ }
 {
-    let t = horizontal(vector_at(tangents, k));
     let len = t.length();
     if is_finite32(len) {
         if len > 0.0 {
@@ -297,6 +297,19 @@ fn along(tangents: &[f32], k: usize, inc: Vector, out: Vector) -> Vector
         return between(inc, out);
     }
     between(inc, out)
+}
+
+// Along the lane. Most tangents have about unit length, and their root is the cheap one.
+fn along(tangents: &[f32], k: usize, inc: Vector, out: Vector) -> Vector
+    requires { ⌜ k < 2 ^ 32 ⌝ }
+    ensures { λ r. ⌜ r ≡ alongOf (now (tangents .entry)) k inc out ⌝ }
+{
+    let t = horizontal(vector_at(tangents, k));
+    let near = root_near_one(t.length_squared());
+    if near.is {
+        return t.mul(1.0 / near.root);
+    }
+    along_any(t, inc, out)
 }
 
 // Rise over run.

@@ -8,7 +8,7 @@ use native.Mathlib.Omega.{arith}
 use lib.Dec.{T}
 use lib.Ieee.{Float, nan, inf, fin, Format, binary32, up, down, unlike, add, mul, lt, le}
 use lib.Ieee.Scale.{finite}
-use Rattle.rounding.specs.Root.{sqrtOf}
+use Rattle.rounding.specs.Root.{sqrtOf, PositiveRoot}
 use Rattle.rounding.specs.Laws.Order.{IsNum, Le→le}
 use Rattle.rounding.specs.Laws.Rounding.{round-signed}
 use Rattle.rounding.specs.Laws.Sums.{add-num-left, add-num-right}
@@ -83,3 +83,8 @@ normalize-or-cases a fallback = go (finite (lengthOf a)) (lt 0f (lengthOf a)) re
     go true true e h = inr (record { bounded = subst T (sym e) tt; some = subst T (sym h) tt; is = refl })
     go true false e h = inl refl
     go false q e h = inl refl
+
+-- over the root of its square, where that is finite and above zero
+pub over-root : (a fallback : Vector) (r : Float) → PositiveRoot (lengthSquaredOf a) r → vectorMul a (1f ⊘ r) ≡ normalizeOr a fallback
+unfolding normalizeOr lengthOf
+over-root a fallback r h = rw (← h .value, h .whole, h .above)

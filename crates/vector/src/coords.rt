@@ -26,6 +26,7 @@ ghost use Rattle.vector.specs.Coords.{
 };
 use rounding::compare;
 use rounding::extremes::is_finite32;
+use rounding::root::root_near_one;
 use rounding::root::sqrt32;
 
 // A place in the world: right-handed, z up, metres.
@@ -205,8 +206,20 @@ impl Vector {
         compare::root_above_tenth(self.length_squared())
     }
 
-    // This direction at unit length, or `fallback` where the length is zero or not finite.
+    // This direction at unit length, or `fallback` where the length is zero or not finite. Most vectors
+    // that come here have about unit length already, and their root is the cheap one.
     pub fn normalize_or(self, fallback: Vector) -> Vector
+        ensures { λ r. ⌜ r ≡ normalizeOr self fallback ⌝ }
+    {
+        let near = root_near_one(self.length_squared());
+        if near.is {
+            return self.mul(1.0 / near.root);
+        }
+        self.normalize_any(fallback)
+    }
+
+    // The same, of any length.
+    fn normalize_any(self, fallback: Vector) -> Vector
         ensures { λ r. ⌜ r ≡ normalizeOr self fallback ⌝ }
     {
         let len = self.length();

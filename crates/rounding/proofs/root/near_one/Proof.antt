@@ -1,15 +1,18 @@
 -- `rounding::root::near_one` meets its contract. Assumes nothing.
+use borrow.Author.Needs.{needs}
 use Prim.Native.Nat.{_+_, _/_}
 use native.Mathlib.Omega.{arith}
-use borrow.Author.Needs.{needs}
 use lib.Ieee.{binary32}
 use Rattle.rounding.proofs.Fields.{result-no-nan}
-use Rattle.rounding.proofs.NearOne.{near-one}
+use Rattle.rounding.proofs.RootTrial.{near-one}
 use Rattle.rounding.proofs.root.near_one.Statement.{statement}
 use Rattle.rounding.proofs.root.near_one.Tie as tie
 
 add-result : tie.Need-add-result
 add-result c = search needs
+
+cast-result : tie.Need-cast-result
+cast-result c = search needs
 
 float-from-bits-result : tie.Need-float-from-bits-result
 float-from-bits-result c = result-no-nan binary32 ((c .args .b + 0x3f80_0000) / 2) (omega (arith, c .pre))
@@ -18,4 +21,4 @@ returns : tie.Need-returns
 returns c = near-one (c .args .b) (c .pre)
 
 pub near-one-spec : {M : Type 1} → statement M
-near-one-spec = tie.close (tie.spec add-result float-from-bits-result returns)
+near-one-spec = tie.close (tie.spec add-result cast-result float-from-bits-result returns)

@@ -1,4 +1,4 @@
--- `rounding::root::sqrt32` meets its contract: each case is a law of `proofs/Fields.antt`, at `binary32`. Assumes nothing.
+-- `rounding::root::sqrt32` meets its contract. Assumes nothing.
 use borrow.Author.Needs.{needs}
 use mathlib.Core.Path.{_≡_, refl, sym, ap, _∙_, subst}
 use mathlib.Core.Logic.{_≢_}
@@ -11,7 +11,7 @@ use lib.Ieee.{Float, binary32, fits, isNan, toBits, ofBits, div, nan, ones, hid,
 use lib.Ieee.Bits.{ofBits-toBits}
 use Rattle.rounding.specs.Root.{sqrtOf}
 use Rattle.rounding.specs.Steps.{Rooted}
-use Rattle.rounding.proofs.Fields.{no-nan, nan-root, zero-root, inf-root, neg-root, some-bits, result-no-nan}
+use Rattle.rounding.proofs.Fields.{no-nan, nan-root, result-no-nan}
 use Rattle.rounding.proofs.root.sqrt32.Statement.{statement}
 use Rattle.rounding.proofs.root.sqrt32.Tie as tie
 
@@ -25,62 +25,28 @@ returns c = nan-root binary32 (c .before .args .x) (c .if1 .taken)
 float-to-bits-b : tie.Need-float-to-bits-b
 float-to-bits-b c = no-nan (c .before .args .x) (c .if1 .left)
 
-returns-2 : tie.Need-returns-2
-returns-2 c = zero-root binary32 (c .before .before .args .x) (held (c .before .before)) (sym (and-mask (toBits binary32 (c .before .before .args .x)) 31) ∙ c .if2 .taken)
+cast-root-normal : tie.Need-cast-root-normal
+cast-root-normal c = search needs
 
-returns-3 : tie.Need-returns-3
-returns-3 c = inf-root binary32 (c .before .before .before .args .x) (held (c .before .before .before)) (c .if3 .taken)
-
-returns-4 : tie.Need-returns-4
-unfolding div ofBits
-returns-4 c =
-    let s = c .before .before .before .before in
-    let x = s .args .x in
-    sym (neg-root binary32 x (held s) (no-nan x (c .before .before .before .if1 .left)) (c .if4 .taken) (λ z. c .before .before .if2 .left (and-mask (toBits binary32 x) 31 ∙ z)))
-
-add-if5 : tie.Need-add-if5
-add-if5 c = search needs
-
-near-one-requires : tie.Need-near-one-requires
-near-one-requires c κs = search needs
-
-returns-5 : tie.Need-returns-5
-returns-5 c = let s = c .before .before .before .before .before .before in c .near-one .ensures ∙ ap (sqrtOf binary32) (ofBits-toBits binary32 (s .args .x) (held s))
-
-cast-root-bits : tie.Need-cast-root-bits
-cast-root-bits c = search needs
-
-root-bits-requires : tie.Need-root-bits-requires
-root-bits-requires c κs =
-    let x = c .before .before .before .before .before .args .x in
-    let m : toBits binary32 x ≢ ones binary32 * hid binary32 = c .before .before .if3 .left in
-    (record { format = binary32; digits = refl; largest = refl }, (some-bits (toBits binary32 x) (2 ^ 31 - 1) (c .before .before .before .if2 .left), omega (arith, c .before .if4 .left)))
+root-normal-requires : tie.Need-root-normal-requires
+root-normal-requires c κs = search needs
 
 cast-result : tie.Need-cast-result
-cast-result c = omega (arith, c .root-bits .ensures binary32 refl refl .finite)
+cast-result c = search needs
 
 float-from-bits-result : tie.Need-float-from-bits-result
-float-from-bits-result c = result-no-nan binary32 (c .root-bits .result) (c .root-bits .ensures binary32 refl refl .finite)
+float-from-bits-result c = result-no-nan binary32 (c .root-normal .result) (c .root-normal .ensures .finite)
 
-returns-6 : tie.Need-returns-6
-returns-6 c =
-    let s = c .before .before .before .before .before .before in
-    c .root-bits .ensures binary32 refl refl .value ∙ ap (sqrtOf binary32) (ofBits-toBits binary32 (s .args .x) (held s))
+returns-2 : tie.Need-returns-2
+returns-2 c =
+    let s = c .before .before .before .before in
+    c .root-normal .ensures .value ∙ ap (sqrtOf binary32) (ofBits-toBits binary32 (s .args .x) (held s))
+
+root-rare-requires : tie.Need-root-rare-requires
+root-rare-requires c κs = search needs
+
+returns-3 : tie.Need-returns-3
+returns-3 c = search needs
 
 pub sqrt32-spec : {M : Type 1} → statement M
-sqrt32-spec =
-    tie.close
-    (tie.spec
-    returns
-    float-to-bits-b
-    returns-2
-    returns-3
-    returns-4
-    add-if5
-    near-one-requires
-    returns-5
-    cast-root-bits
-    root-bits-requires
-    cast-result
-    float-from-bits-result
-    returns-6)
+sqrt32-spec = tie.close (tie.spec returns float-to-bits-b cast-root-normal root-normal-requires cast-result float-from-bits-result returns-2 root-rare-requires returns-3)

@@ -1,8 +1,11 @@
--- `shape::mesh::along` meets its contract: the tangent, or the way between the legs. Assumes nothing.
-use mathlib.Core.Path.{sym, ap, _∙_}
-use lib.Ieee.{ofBits}
-use Rattle.vector.specs.Coords.{lengthOf, normalizeOr}
+-- `shape::mesh::along` meets its contract: next to unit length by the law `over-root`. Assumes nothing.
+use mathlib.Core.Path.{ap, _∙_, subst}
+use lib.Ieee.{Float, ofBits}
+use Rattle.rounding.specs.Root.{PositiveRoot}
+use Rattle.vector.specs.Coords.{normalizeOr, normalizeOrZero, vectorAdd}
 use Rattle.vector.specs.Geometry.{horizontalOf}
+use Rattle.vector.specs.Laws.{over-root}
+use Rattle.vector.specs.declared.coords.Vector.{Vector}
 use Rattle.shape.specs.Strip.{alongOf}
 use borrow.Author.Needs.{needs}
 use Rattle.shape.proofs.mesh.along.Statement.{statement}
@@ -14,32 +17,35 @@ vector-at-requires c κs = search needs
 horizontal-requires : tie.Need-horizontal-requires
 horizontal-requires c κs = search needs
 
-length-requires : tie.Need-length-requires
-length-requires c κs = search needs
+length-squared-requires : tie.Need-length-squared-requires
+length-squared-requires c κs = search needs
 
-is-finite32-requires : tie.Need-is-finite32-requires
-is-finite32-requires c κs = search needs
+root-near-one-requires : tie.Need-root-near-one-requires
+root-near-one-requires c κs = search needs
 
 mul-requires : tie.Need-mul-requires
 mul-requires c κs = search needs
 
 returns : tie.Need-returns
-unfolding alongOf normalizeOr ofBits
-returns c = let e = c .before .before .before .before .length .ensures ∙ ap lengthOf (c .before .before .before .before .before .horizontal .ensures ∙ ap horizontalOf (c .before .before .before .before .before .before .vector-at .ensures)) in let f = rw e at (sym (c .before .before .before .is-finite32 .ensures) ∙ c .before .before .if1 .taken) in let p = rw e at (c .before .if2 .taken) in rw (c .mul .ensures, e, c .before .before .before .before .before .horizontal .ensures, c .before .before .before .before .before .before .vector-at .ensures, f, p)
+unfolding alongOf ofBits
+returns c =
+    let s = c .before .before .before .before .before .before .before .before in
+    let near = c .before .before .before .root-near-one in
+    let t = c .before .before .before .before .before .horizontal .result in
+    let e = c .before .before .before .before .before .horizontal .ensures ∙ ap horizontalOf (c .before .before .before .before .before .before .vector-at .ensures) in
+    let h = subst (λ (x : Float). PositiveRoot x (near .result .root)) (c .before .before .before .before .length-squared .ensures) (near .ensures (c .before .before .if1 .taken)) in
+    let way = normalizeOrZero (vectorAdd (s .args .inc) (s .args .out)) in
+    c .mul .ensures ∙ over-root t way (near .result .root) h ∙ ap (λ (v : Vector). normalizeOr v way) e
 
-between-requires : tie.Need-between-requires
-between-requires c κs = search needs
+along-any-requires : tie.Need-along-any-requires
+along-any-requires c κs = search needs
 
 returns-2 : tie.Need-returns-2
-unfolding alongOf normalizeOr ofBits
-returns-2 c = let e = c .before .before .before .before .length .ensures ∙ ap lengthOf (c .before .before .before .before .before .horizontal .ensures ∙ ap horizontalOf (c .before .before .before .before .before .before .vector-at .ensures)) in let f = rw e at (sym (c .before .before .before .is-finite32 .ensures) ∙ c .before .before .if1 .taken) in let p = rw e at (c .before .if2 .left) in rw (c .between .ensures, f, p)
-
-between-requires-2 : tie.Need-between-requires-2
-between-requires-2 c κs = search needs
-
-returns-3 : tie.Need-returns-3
-unfolding alongOf normalizeOr ofBits
-returns-3 c = let e = c .before .before .before .length .ensures ∙ ap lengthOf (c .before .before .before .before .horizontal .ensures ∙ ap horizontalOf (c .before .before .before .before .before .vector-at .ensures)) in let f = rw e at (sym (c .before .before .is-finite32 .ensures) ∙ c .before .if1 .left) in rw (c .between2 .ensures, f)
+unfolding alongOf
+returns-2 c =
+    let s = c .before .before .before .before .before .before .before in
+    let e = c .before .before .before .before .horizontal .ensures ∙ ap horizontalOf (c .before .before .before .before .before .vector-at .ensures) in
+    c .along-any .ensures ∙ ap (λ (v : Vector). normalizeOr v (normalizeOrZero (vectorAdd (s .args .inc) (s .args .out)))) e
 
 pub along-spec : {M : Type 1} → statement M
 along-spec =
@@ -47,11 +53,9 @@ along-spec =
     (tie.spec
     vector-at-requires
     horizontal-requires
-    length-requires
-    is-finite32-requires
+    length-squared-requires
+    root-near-one-requires
     mul-requires
     returns
-    between-requires
-    returns-2
-    between-requires-2
-    returns-3)
+    along-any-requires
+    returns-2)

@@ -1,31 +1,42 @@
--- `vector::coords::Vector::normalize_or` meets its contract, by the tests that led to each return. Assumes nothing.
+-- `vector::coords::Vector::normalize_or` meets its contract: next to unit length by the law `over-root`. Assumes nothing.
 use borrow.Author.Needs.{needs}
-use Rattle.vector.specs.Coords.{normalizeOr}
+use mathlib.Core.Path.{_∙_, subst}
+use lib.Ieee.{Float, ofBits}
+use Rattle.rounding.specs.Root.{PositiveRoot}
+use Rattle.vector.specs.Laws.{over-root}
 use Rattle.vector.proofs.coords.Vector.normalize_or.Statement.{statement}
 use Rattle.vector.proofs.coords.Vector.normalize_or.Tie as tie
 
-length-requires : tie.Need-length-requires
-length-requires c κs = search needs
+length-squared-requires : tie.Need-length-squared-requires
+length-squared-requires c κs = search needs
 
-is-finite32-requires : tie.Need-is-finite32-requires
-is-finite32-requires c κs = search needs
+root-near-one-requires : tie.Need-root-near-one-requires
+root-near-one-requires c κs = search needs
 
 mul-requires : tie.Need-mul-requires
 mul-requires c κs = search needs
 
 returns : tie.Need-returns
-unfolding normalizeOr
-returns c = rw (← c .before .before .before .before .length .ensures, ← c .before .before .before .is-finite32 .ensures, c .before .before .if1 .taken, c .before .if2 .taken) (c .mul .ensures)
+unfolding ofBits
+returns c =
+    let s = c .before .before .before .before .before in
+    let near = c .before .before .before .root-near-one in
+    let h = subst (λ (x : Float). PositiveRoot x (near .result .root)) (c .before .before .before .before .length-squared .ensures) (near .ensures (c .before .before .if1 .taken)) in
+    c .mul .ensures ∙ over-root (s .args .self) (s .args .fallback) (near .result .root) h
+
+normalize-any-requires : tie.Need-normalize-any-requires
+normalize-any-requires c κs = search needs
 
 returns-2 : tie.Need-returns-2
-unfolding normalizeOr
-returns-2 c = rw (← c .before .before .before .length .ensures, ← c .before .before .is-finite32 .ensures, c .before .if1 .taken, c .if2 .left)
-
-returns-3 : tie.Need-returns-3
-unfolding normalizeOr
-returns-3 c = rw (← c .before .before .length .ensures, ← c .before .is-finite32 .ensures, c .if1 .left)
+returns-2 c = search needs
 
 pub normalize-or-spec : {M : Type 1} → statement M
 normalize-or-spec =
     tie.close
-    (tie.spec length-requires is-finite32-requires mul-requires returns returns-2 returns-3)
+    (tie.spec
+    length-squared-requires
+    root-near-one-requires
+    mul-requires
+    returns
+    normalize-any-requires
+    returns-2)
