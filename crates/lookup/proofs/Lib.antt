@@ -10,3 +10,5 @@ pub mod Batches
 pub mod Digits
 pub mod Blocks
 pub mod Rising
+pub mod Level
+pub mod Picking
