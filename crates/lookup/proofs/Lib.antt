@@ -12,3 +12,4 @@ pub mod Blocks
 pub mod Rising
 pub mod Level
 pub mod Picking
+pub mod Tallies
