@@ -1,13 +1,12 @@
 -- The box around corners, and around two boxes, by comparisons that are right where the first of two is a number. Assumes nothing.
-use mathlib.Core.Path.{_≡_, refl, sym, ap, _∙_, subst}
-use mathlib.Core.Bool.{Bool, true, false, not, cond, true≢false}
+use mathlib.Core.Path.{_≡_, sym, ap, _∙_, subst}
+use mathlib.Core.Bool.{Bool, true, false, not, true≢false}
 use mathlib.Core.List.{List}
 use Prim.Native.Nat.{ℕ}
-use lib.Dec.{T}
 use lib.Ieee.{Float, nan, inf, fin, binary32, add, sub, lt, le, eq, ne, isNan}
 use lib.Ieee.Bits.{is-true, is-false}
 use Rattle.rounding.specs.Extremes.{first, ge, minOf, maxOf}
-use Rattle.rounding.specs.Laws.Order.{IsNum, T-of, not-T-of, not-nan-num, num-of-same, nan-of-differs, lt-num-left, lt-num-right, lt-iff-not-le, le-of-not-lt}
+use Rattle.rounding.specs.Laws.Order.{IsNum, T-of, not-nan-num, num-of-same, nan-of-differs, lt-num-left, lt-num-right, lt-iff-not-le, le-of-not-lt}
 use Rattle.rounding.specs.Laws.Sums.{add-num-right, sub-num-right}
 use Rattle.vector.specs.declared.coords.Point.{Point}
 use Rattle.lookup.specs.Mesh.{cornersOf}
