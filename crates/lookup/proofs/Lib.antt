@@ -10,3 +10,6 @@ pub mod Batches
 pub mod Digits
 pub mod Blocks
 pub mod Rising
+pub mod Level
+pub mod Picking
+pub mod Tallies
