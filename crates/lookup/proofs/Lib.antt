@@ -10,3 +10,4 @@ pub mod Batches
 pub mod Digits
 pub mod Blocks
 pub mod Rising
+pub mod Sixteens
