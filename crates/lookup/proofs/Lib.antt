@@ -13,3 +13,4 @@ pub mod Rising
 pub mod Level
 pub mod Picking
 pub mod Tallies
+pub mod Sixteens

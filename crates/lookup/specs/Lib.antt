@@ -2,6 +2,7 @@
 pub mod Mesh
 pub mod Cover
 pub mod Plain
+pub mod Sixteen
 pub mod Winner
 pub mod Box
 pub mod Frame

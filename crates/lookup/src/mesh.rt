@@ -1,14 +1,16 @@
 // Triangles of a mesh, and the plain lookup over them. A mesh is four lent lists: the vertices'
 // coordinates and the normals' in threes, the triangles' vertex numbers in threes, and the lanes' spans.
 ghost use mathlib.Core.Path.{_≡_};
-ghost use mathlib.Core.Bool.{true, false};
+ghost use mathlib.Core.Bool.{true, false, _&&_};
 ghost use mathlib.Core.Logic.{_⊎_};
-ghost use Prim.Native.Nat.{_+_, _*_, _<_, _^_};
+ghost use Prim.Native.Nat.{_+_, _*_, _<_, _≤_, _^_};
 ghost use lib.ListN.{length};
+ghost use lib.Ieee.{lt};
 ghost use Rattle.shape.specs.Lists.{pointAt, meshLists};
 ghost use Rattle.lookup.specs.Mesh.{cornersOf, normalAt, triangles};
-ghost use Rattle.lookup.specs.Cover.{detOf, overA, weightA, weightB, weightsOf, insideOf, liftOf, faceUp, smoothOf, blendOf, flatOf, normalOf};
+ghost use Rattle.lookup.specs.Cover.{slack, detOf, overA, weightA, weightB, weightsOf, insideOf, liftOf, faceUp, smoothOf, blendOf, flatOf, normalOf};
 ghost use Rattle.lookup.specs.Plain.{higherOf, scanOf, entryOf, readAnswer, answerOf};
+ghost use Rattle.lookup.specs.Sixteen.{turnOf, groundAt, Grounded, AllHeld, AllLow, Passing, NoneLow, Weighed, HitOf};
 use rounding::extremes::abs32;
 use shape::lists::mesh_fault;
 use shape::lists::vector_at;
@@ -157,12 +159,11 @@ fn lesser(x: f32, y: f32) -> f32
 }
 
 impl Weights {
-    // Is a weight too low? A NaN among them is left to the full test. Of a cell's triangles nearly all go by
-    // this one test, where a test for each weight would go now this way and now that.
-    fn outside(self) -> bool
-        ensures { λ r. ⌜ (r ≡ true → insideOf self ≡ false) ⌝ }
+    // The least weight, or another where a NaN is among them: too low, the point is not inside.
+    fn least(self) -> f32
+        ensures { λ r. ⌜ (lt r slack ≡ true → insideOf self ≡ false) ⌝ }
     {
-        lesser(lesser(self.a, self.b), self.c) < -1e-4
+        lesser(lesser(self.a, self.b), self.c)
     }
 
     // Has the triangle a footprint, and does the point lie in it? A NaN among the weights fails its test.
@@ -278,27 +279,236 @@ pub fn normal_of(
 
 // ---- the lookup
 
-// The best of the triangles that a run of triangle numbers names, in its order.
-pub fn highest(vertices: &[f32], indices: &[u32], run: &[u32], x: f32, y: f32) -> Best
-    ensures { λ r. ⌜ r ≡ scanOf (now (vertices .entry)) (now (indices .entry)) x y (entryOf (now (run .entry))) (length (now (run .entry))) ⌝ }
+// ---- the lookup by sixteens
+
+// The best of a run, and whether no triangle of it is missing.
+pub struct Hit {
+    pub best: Best,
+    pub whole: bool,
+}
+
+// Place k of a row of points on the ground, two numbers each.
+fn ground_at(xs: &[f32], k: usize) -> Point
+    requires { ⌜ 2 * k + 1 < length (now xs) ⌝ }
+    ensures { λ r. ⌜ r ≡ groundAt (now (xs .entry)) k ⌝ }
 {
-    let mut best = Best::Nothing;
-    for i in 0..run.len() {
-        let t = wide(run[i]);
-        let Fetch::Corners(a, b, c) = corners(vertices, indices, t) else {
-            continue;
+    Point {
+        x: xs[2 * k],
+        y: xs[2 * k + 1],
+        z: 0.0,
+    }
+}
+
+fn put_ground(xs: &mut [f32], k: usize, p: Point)
+    requires { ⌜ 2 * k + 1 < length (now xs) ⌝ }
+    ensures { λ _. ⌜ Grounded (now (xs .entry)) (now (xs .exit)) k p ⌝ }
+{
+    xs[2 * k] = p.x;
+    xs[2 * k + 1] = p.y;
+}
+
+// The corners on the ground of the n triangles that a run names from `from` on. No where one is missing.
+fn gather(
+    vertices: &[f32],
+    indices: &[u32],
+    run: &[u32],
+    from: usize,
+    n: usize,
+    a: &mut [f32],
+    b: &mut [f32],
+    c: &mut [f32],
+) -> bool
+    requires { ⌜ (from + n ≤ length (now run)) × (2 * n ≤ length (now a)) × (2 * n ≤ length (now b)) × (2 * n ≤ length (now c)) ⌝ }
+    ensures { λ r. ⌜ (r ≡ true → AllHeld (now (vertices .entry)) (now (indices .entry)) (now (run .entry)) from n (now (a .exit)) (now (b .exit)) (now (c .exit))) ⌝ }
+{
+    let mut k: usize = 0;
+    while k < n {
+        let t = wide(run[from + k]);
+        let Fetch::Corners(p, q, r) = corners(vertices, indices, t) else {
+            return false;
         };
-        let w = weigh(a, b, c, x, y);
-        if w.outside() {
-            continue;
-        }
-        if !w.inside() {
-            continue;
-        }
-        best = best.higher(w.height(a, b, c), t);
+        put_ground(a, k, p);
+        put_ground(b, k, q);
+        put_ground(c, k, r);
+        k += 1;
+    }
+    true
+}
+
+// The least weight of each of n triangles. With nothing else in the loop the compiler takes four at a time.
+fn weigh_all(a: &[f32], b: &[f32], c: &[f32], n: usize, x: f32, y: f32, low: &mut [f32])
+    requires { ⌜ (2 * n ≤ length (now a)) × (2 * n ≤ length (now b)) × (2 * n ≤ length (now c)) × (n ≤ length (now low)) ⌝ }
+    ensures { λ _. ⌜ AllLow (now (a .entry)) (now (b .entry)) (now (c .entry)) x y (now (low .exit)) n ⌝ }
+{
+    let mut k: usize = 0;
+    while k < n {
+        let w = weigh(ground_at(a, k), ground_at(b, k), ground_at(c, k), x, y);
+        low[k] = w.least();
+        k += 1;
+    }
+}
+
+// The best after triangle t.
+fn turn(vertices: &[f32], indices: &[u32], t: usize, x: f32, y: f32, best: Best) -> Best
+    ensures { λ r. ⌜ r ≡ turnOf (now (vertices .entry)) (now (indices .entry)) x y best t ⌝ }
+{
+    let Fetch::Corners(a, b, c) = corners(vertices, indices, t) else {
+        return best;
+    };
+    let w = weigh(a, b, c, x, y);
+    if w.inside() {
+        return best.higher(w.height(a, b, c), t);
     }
     best
 }
+
+// The best after n more triangles of a run, of which those with too low a least weight are passed over.
+fn low_turns(
+    vertices: &[f32],
+    indices: &[u32],
+    run: &[u32],
+    from: usize,
+    n: usize,
+    low: &[f32],
+    x: f32,
+    y: f32,
+    before: Best,
+) -> Best
+    requires { ⌜ (from + n ≤ length (now run)) × (n ≤ length (now low)) ⌝ }
+    requires { ⌜ Passing (now vertices) (now indices) x y (now run) from n (now low) ⌝ }
+    requires { ⌜ before ≡ scanOf (now vertices) (now indices) x y (entryOf (now run)) from ⌝ }
+    ensures { λ r. ⌜ r ≡ scanOf (now (vertices .entry)) (now (indices .entry)) x y (entryOf (now (run .entry))) (from + n) ⌝ }
+{
+    let mut best = before;
+    for k in 0..n {
+        if low[k] < -1e-4 {
+            continue;
+        }
+        best = turn(vertices, indices, wide(run[from + k]), x, y, best);
+    }
+    best
+}
+
+// The next multiple of 4: the fours then leave no rest.
+fn fours(n: usize) -> usize
+    requires { ⌜ n ≤ 16 ⌝ }
+    ensures { λ r. ⌜ (n ≤ r) × (r ≤ 16) ⌝ }
+{
+    (n + 3) / 4 * 4
+}
+
+// At most sixteen.
+fn few_of(n: usize) -> usize
+    requires { ⌜ 0 < n ⌝ }
+    ensures { λ r. ⌜ (0 < r) × (r ≤ n) × (r ≤ 16) ⌝ }
+{
+    if n < 16 {
+        return n;
+    }
+    16
+}
+
+// Sets n least weights to 0, which passes nothing over.
+fn pass_none(low: &mut [f32], n: usize)
+    requires { ⌜ n ≤ length (now low) ⌝ }
+    ensures { λ _. ⌜ NoneLow (now (low .exit)) n ⌝ }
+{
+    let mut k: usize = 0;
+    while k < n {
+        low[k] = 0.0;
+        k += 1;
+    }
+}
+
+// The least weights of n triangles of a run, if none of them is missing.
+fn weigh_part(
+    vertices: &[f32],
+    indices: &[u32],
+    run: &[u32],
+    from: usize,
+    n: usize,
+    x: f32,
+    y: f32,
+    a: &mut [f32],
+    b: &mut [f32],
+    c: &mut [f32],
+    low: &mut [f32],
+) -> bool
+    requires { ⌜ (from + n ≤ length (now run)) × (n ≤ 16) ⌝ }
+    requires { ⌜ (32 ≤ length (now a)) × (32 ≤ length (now b)) × (32 ≤ length (now c)) × (16 ≤ length (now low)) ⌝ }
+    ensures { λ r. ⌜ Weighed (now (vertices .entry)) (now (indices .entry)) x y (now (run .entry)) from n (now (low .exit)) r ⌝ }
+{
+    if gather(vertices, indices, run, from, n, a, b, c) {
+        weigh_all(a, b, c, fours(n), x, y, low);
+        return true;
+    }
+    pass_none(low, n);
+    false
+}
+
+fn both(p: bool, q: bool) -> bool
+    ensures { λ r. ⌜ r ≡ p && q ⌝ }
+{
+    if p {
+        return q;
+    }
+    false
+}
+
+// The best of a run, with room for the corners and weights of sixteen triangles.
+fn highest_in(
+    vertices: &[f32],
+    indices: &[u32],
+    run: &[u32],
+    x: f32,
+    y: f32,
+    a: &mut [f32],
+    b: &mut [f32],
+    c: &mut [f32],
+    low: &mut [f32],
+) -> Hit
+    requires { ⌜ (32 ≤ length (now a)) × (32 ≤ length (now b)) × (32 ≤ length (now c)) × (16 ≤ length (now low)) ⌝ }
+    ensures { λ r. ⌜ HitOf (now (vertices .entry)) (now (indices .entry)) x y (now (run .entry)) (length (now (run .entry))) (r .best) (r .whole) ⌝ }
+{
+    let mut best = Best::Nothing;
+    let mut whole = true;
+    let mut i: usize = 0;
+    while i < run.len() {
+        let n = few_of(run.len() - i);
+        let there = weigh_part(vertices, indices, run, i, n, x, y, a, b, c, low);
+        whole = both(whole, there);
+        best = low_turns(vertices, indices, run, i, n, low, x, y, best);
+        i += n;
+    }
+    Hit {
+        best: best,
+        whole: whole,
+    }
+}
+
+// The best of the triangles that a run of triangle numbers names, in its order. Nearly all go by their least
+// weight: it is worked out for sixteen at a time, first the corners and then the weights.
+pub fn highest(vertices: &[f32], indices: &[u32], run: &[u32], x: f32, y: f32) -> Hit
+    ensures { λ r. ⌜ HitOf (now (vertices .entry)) (now (indices .entry)) x y (now (run .entry)) (length (now (run .entry))) (r .best) (r .whole) ⌝ }
+{
+    let mut a = [0f32; 32];
+    let mut b = [0f32; 32];
+    let mut c = [0f32; 32];
+    let mut low = [0f32; 16];
+    highest_in(
+        vertices,
+        indices,
+        run,
+        x,
+        y,
+        &mut a,
+        &mut b,
+        &mut c,
+        &mut low,
+    )
+}
+
+// ---- the plain lookup
 
 // The best of all triangles, by their numbers.
 fn highest_of_all(vertices: &[f32], indices: &[u32], x: f32, y: f32) -> Best

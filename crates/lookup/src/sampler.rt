@@ -2,18 +2,21 @@
 ghost use mathlib.Core.Path.{_≡_};
 ghost use mathlib.Core.List.{[], _∷_};
 ghost use mathlib.Core.Bool.{true, false};
-ghost use Prim.Native.Nat.{_+_, _*_, _/_, _<_, _≤_};
+ghost use Prim.Native.Nat.{_+_, _-_, _*_, _/_, _<_, _≤_};
 ghost use lib.Dec.{eqb};
 ghost use lib.ListN.{length};
 ghost use Rattle.shape.specs.Gather.{any};
-ghost use Rattle.shape.specs.Refusal.{fine, found, numberOf, placeOf, leaves};
+ghost use Rattle.shape.specs.Refusal.{fine, taken, found, numberOf, placeOf, leaves};
 ghost use Rattle.shape.specs.Lists.{runBad, meshFault, meshLists};
 ghost use Rattle.shape.specs.Memory.{Put};
-ghost use Rattle.lookup.specs.Sampler.{EndsRise, pastOf, laneOf, topFault, readSampled, topOf};
+ghost use Rattle.lookup.specs.Sampler.{EndsRise, pastOf, laneOf, topFault, readSampled, sampleOf, topOf};
+ghost use Rattle.lookup.specs.Consult.{entryFault};
+ghost use Rattle.lookup.specs.Sixteen.{Small};
 ghost use Rattle.lookup.specs.Batch.{wordFor, laneThere, laneId, cutRecord, recordAt, recordsOf, topsOf, readSampling};
 use crate::grid::Consulted;
 use crate::grid::at;
-use crate::grid::consult;
+use crate::grid::entry_fault;
+use crate::grid::locate;
 use crate::mesh::Best;
 use crate::mesh::highest;
 use crate::mesh::normal_of;
@@ -194,6 +197,41 @@ fn top_fault(
     Check::Faulty(Refusal::Oversize(4194304))
 }
 
+// Why the entries from a to e are turned back, if they are. They are not where the scan has found each of them
+// to be a whole triangle.
+fn run_check(index: &[u32], count: usize, a: usize, e: usize, whole: bool) -> Check
+    requires { ⌜ (whole ≡ true → e ≤ length (now index) → entryFault (now index) count a (e - a) ≡ fine) ⌝ }
+    ensures { λ r. ⌜ found r ≡ entryFault (now (index .entry)) count a (e - a) ⌝ }
+{
+    if whole {
+        if e <= index.len() {
+            return Check::Fine;
+        }
+        return entry_fault(index, count, a, e);
+    }
+    entry_fault(index, count, a, e)
+}
+
+// The answer that the best gives: its height, normal, number and lane.
+fn told(
+    vertices: &[f32],
+    normals: &[f32],
+    indices: &[u32],
+    spans: &[u32],
+    x: f32,
+    y: f32,
+    best: Best,
+) -> Sampled
+    requires { ⌜ Small best × (length (now spans) ≤ 5120) × EndsRise (now spans) (length (now spans) / 5) ⌝ }
+    ensures { λ r. ⌜ readSampled r ≡ taken (sampleOf (meshLists (now (vertices .entry)) (now (normals .entry)) (now (indices .entry)) (now (spans .entry))) x y best) ⌝ }
+{
+    let Best::At(h, t) = best else {
+        return Sampled::None;
+    };
+    let normal = normal_of(vertices, normals, indices, t, x, y);
+    Sampled::Found(h, normal, t, lane_of(spans, t))
+}
+
 // The answer at (x, y) where the five lists are in order: the highest of the point's candidates, of the
 // lowest number among equals, with its height, normal, number and lane.
 fn sample(
@@ -208,16 +246,18 @@ fn sample(
     requires { ⌜ topFault (meshLists (now vertices) (now normals) (now indices) (now spans)) (now index) ≡ fine ⌝ }
     ensures { λ r. ⌜ readSampled r ≡ topOf (meshLists (now (vertices .entry)) (now (normals .entry)) (now (indices .entry)) (now (spans .entry))) (now (index .entry)) x y ⌝ }
 {
-    match consult(index, indices.len() / 3, x, y) {
+    match locate(index, indices.len() / 3, x, y) {
         Consulted::Refused(r) => Sampled::Refused(r),
         Consulted::Nowhere => Sampled::None,
-        Consulted::Run(a, e) => match highest(vertices, indices, at(index, a, e), x, y) {
-            Best::At(h, t) => {
-                let normal = normal_of(vertices, normals, indices, t, x, y);
-                Sampled::Found(h, normal, t, lane_of(spans, t))
+        Consulted::Run(a, e) => {
+            let hit = highest(vertices, indices, at(index, a, e), x, y);
+            let check = run_check(index, indices.len() / 3, a, e, hit.whole);
+            if let Check::Faulty(r) = check {
+                return Sampled::Refused(r);
             }
-            Best::Nothing => Sampled::None,
-        },
+            let best = hit.best;
+            told(vertices, normals, indices, spans, x, y, best)
+        }
     }
 }
 

@@ -1,0 +1,196 @@
+-- The steps by which `highest` goes through a run, sixteen triangles at a time, and what `locate` says of it. Assumes nothing.
+use mathlib.Core.Path.{_≡_, refl, sym, ap, _∙_, subst}
+use mathlib.Core.Logic.{⊎-elim}
+use mathlib.Core.Bool.{Bool, true, false, _&&_}
+use mathlib.Core.List.{List}
+use Prim.Native.Nat.{ℕ, zero, suc, _+_, _-_, _*_, _≤_, _<_}
+use native.Mathlib.Nat.{eq-or-lt-of-le, le-of-suc-le-suc}
+use native.Mathlib.Numerals.{add-one}
+use native.Mathlib.Decide.{decLt}
+use native.Mathlib.Omega.{arith}
+use lib.Dec.{T}
+use lib.ListN.{length, getD, set, take, drop, length-set, length-drop}
+use lib.Seq.{getD-set-same, getD-set-other, getD-take, getD-drop, length-take-le}
+use lib.Ieee.{Float, nan, lt}
+use Rattle.rounding.specs.Laws.Order.{T-of}
+use Rattle.vector.specs.Single.{0f}
+use Rattle.vector.specs.declared.coords.Point.{Point}
+use Rattle.shape.specs.Refusal.{fine, Answer, taken, refused, numberOf, placeOf}
+use Rattle.shape.specs.declared.refusal.Refusal.{Refusal}
+use Rattle.lookup.specs.declared.grid.Consulted.{Consulted}
+use Rattle.lookup.specs.declared.grid.Consulted.the-variants.{Run, Nowhere, Refused}
+use Rattle.lookup.specs.declared.mesh.Fetch.the-variants.{Corners, Missing}
+use Rattle.lookup.specs.declared.mesh.Best.{Best}
+use Rattle.lookup.specs.Mesh.{present, cornersOf, cornerOf, triangles}
+use Rattle.lookup.specs.Cover.{slack, covers, heightOf, weightsOf, weightsAt, detOf, overA, weightA, weightB, insideOf, liftOf}
+use Rattle.lookup.specs.Plain.{scanOf, higherOf, entryOf}
+use Rattle.lookup.specs.Consult.{entryFault, wordAt, Place, nowhere}
+use Rattle.lookup.specs.Steps.{Runs, Started}
+use Rattle.lookup.specs.Sixteen.{turnOf, groundAt, Over, Grounded, Held, AllHeld, Low, AllLow, Passing, AllThere, Weighed, HitOf}
+use Rattle.lookup.specs.Laws.Heads.{entry-none, entry-step}
+use Rattle.lookup.specs.Laws.Plain.{present-below}
+use Rattle.lookup.proofs.Turns.{there, missing, weights-are}
+
+-- what holds of each number below n, and of n, holds of each below suc n
+upto : (P : ℕ → Type 0) (n : ℕ) → ((j : ℕ) → j < n → P j) → P n → (j : ℕ) → j < suc n → P j
+upto P n f p j h = ⊎-elim (λ (z : j ≡ n). subst P (sym z) p) (λ (z : j < n). f j z) (eq-or-lt-of-le (le-of-suc-le-suc h))
+
+-- ---- corners on the ground
+
+pub ground-put : (xs : List Float) (k : ℕ) (p : Point) → 2 * k + 1 < length xs → Grounded xs (set (set xs (2 * k) (p .x)) (2 * k + 1) (p .y)) k p
+unfolding groundAt
+ground-put xs k p h =
+    record {
+      put =
+          record {
+            same-x = getD-set-other (set xs (2 * k) (p .x)) (2 * k + 1) (2 * k) (p .y) nan (λ q. omega arith) ∙ getD-set-same xs (2 * k) (p .x) nan (omega arith);
+            same-y = getD-set-same (set xs (2 * k) (p .x)) (2 * k + 1) (p .y) nan (simp length-set h);
+          };
+      kept = λ j l i. record { x = at (2 * j) (λ q. omega arith) (λ q. omega arith) i; y = at (2 * j + 1) (λ q. omega arith) (λ q. omega arith) i; z = 0f };
+    }
+  where
+    at : (m : ℕ) → (m ≡ 2 * k → ⊥) → (m ≡ 2 * k + 1 → ⊥) → getD (set (set xs (2 * k) (p .x)) (2 * k + 1) (p .y)) m nan ≡ getD xs m nan
+    at m a b = getD-set-other (set xs (2 * k) (p .x)) (2 * k + 1) m (p .y) nan b ∙ getD-set-other xs (2 * k) m (p .x) nan a
+
+ground-weights : {p q r a b c : Point} (x y : Float) → Over p a → Over q b → Over r c → weightsOf p q r x y ≡ weightsOf a b c x y
+unfolding weightsOf detOf overA weightA weightB
+ground-weights x y f g h = rw (f .same-x, f .same-y, g .same-x, g .same-y, h .same-x, h .same-y)
+
+module _ (vs : List Float) (is : List ℕ) where
+  held-out : {t : ℕ} {p q r : Point} (x y : Float) → Held vs is t p q r → insideOf (weightsOf p q r x y) ≡ false → covers vs is t x y ≡ false
+  unfolding covers weightsAt
+  held-out x y h o = rw (h .there, ← ground-weights x y (h .first) (h .second) (h .third), o)
+
+  fetched : (t : ℕ) {a b c p q r : Point} → Corners a b c ≡ cornersOf vs is t → Over p a → Over q b → Over r c → Held vs is t p q r
+  fetched t e f g h =
+      let w = there vs is t e in
+      record { there = w .0; first = subst (Over _) (w .1) f; second = subst (Over _) (w .2) g; third = subst (Over _) (w .3) h }
+
+  pub gather-step : (run : List ℕ) (from k : ℕ) {a b c a′ b′ c′ : List Float} {p q r : Point} {t : ℕ}
+      → AllHeld vs is run from k a b c
+      → t ≡ entryOf run (from + k)
+      → Corners p q r ≡ cornersOf vs is t
+      → Grounded a a′ k p
+      → Grounded b b′ k q
+      → Grounded c c′ k r
+      → AllHeld vs is run from (k + 1) a′ b′ c′
+  gather-step run from k {a} {b} {c} {a′} {b′} {c′} old same e f g h =
+      subst (λ (n : ℕ). AllHeld vs is run from n a′ b′ c′) (sym (add-one k))
+      (upto (λ j. Held vs is (entryOf run (from + j)) (groundAt a′ j) (groundAt b′ j) (groundAt c′ j)) k
+      (λ j l. rw (f .kept j l, g .kept j l, h .kept j l) (old j l))
+      (subst (λ (t : ℕ). Held vs is t (groundAt a′ k) (groundAt b′ k) (groundAt c′ k)) same (fetched _ e (f .put) (g .put) (h .put))))
+
+-- ---- least weights
+
+pub low-step : (P : ℕ → Type 0) (low : List Float) (k : ℕ) (v : Float) → k < length low
+    → ((j : ℕ) → j < k → Low low j → P j)
+    → (lt v slack ≡ true → P k)
+    → (j : ℕ) → j < suc k → Low (set low k v) j → P j
+low-step P low k v room old new =
+    upto (λ j. Low (set low k v) j → P j) k
+    (λ j l w. old j l (subst (λ (z : Float). lt z slack ≡ true) (getD-set-other low k j v nan (λ q. omega arith)) w))
+    (λ w. new (subst (λ (z : Float). lt z slack ≡ true) (getD-set-same low k v nan room) w))
+
+pub weighed : (vs : List Float) (is : List ℕ) (x y : Float) (run : List ℕ) (from n m : ℕ) (a b c low : List Float)
+    → n ≤ m → AllHeld vs is run from n a b c → AllLow a b c x y low m → Weighed vs is x y run from n low true
+weighed vs is x y run from n m a b c low le held lows =
+    record {
+      passing = λ k l w. held-out vs is x y (held k l) (lows k (omega arith) w);
+      there = λ _ k l. held k l .there;
+    }
+
+pub unweighed : (vs : List Float) (is : List ℕ) (x y : Float) (run : List ℕ) (from n : ℕ) (low : List Float)
+    → ((k : ℕ) → k < n → Low low k → ⊥) → Weighed vs is x y run from n low false
+unweighed vs is x y run from n low none =
+    record {
+      passing = λ k l w. absurd (none k l w);
+      there = λ e. absurd (differ e);
+    }
+  where
+    differ : false ≡ true → ⊥
+    differ e = T-of e
+
+-- ---- a turn
+
+module _ (vs : List Float) (is : List ℕ) (x y : Float) (best : Best) (t : ℕ) where
+  pub turn-missing : Missing ≡ cornersOf vs is t → best ≡ turnOf vs is x y best t
+  unfolding turnOf covers
+  turn-missing f = rw (missing vs is t f)
+
+  module _ {a b c : Point} (f : Corners a b c ≡ cornersOf vs is t) where
+    pub turn-out : insideOf (weightsOf a b c x y) ≡ false → best ≡ turnOf vs is x y best t
+    unfolding turnOf covers
+    turn-out o = rw (there vs is t f .0, ← weights-are vs is t x y f, o)
+
+    pub turn-in : insideOf (weightsOf a b c x y) ≡ true → higherOf best (liftOf (weightsOf a b c x y) (a .z) (b .z) (c .z)) t ≡ turnOf vs is x y best t
+    unfolding turnOf covers heightOf
+    turn-in o = let k = there vs is t f in rw (k .0, ← weights-are vs is t x y f, o, ← k .1, ← k .2, ← k .3)
+
+  pub turn-next : (seq : ℕ → ℕ) (i j : ℕ) → best ≡ scanOf vs is x y seq i → t ≡ seq i → j ≡ suc i → turnOf vs is x y best t ≡ scanOf vs is x y seq j
+  unfolding turnOf scanOf
+  turn-next seq i j e s n = rw (n, ← s, e)
+
+pub pass-next : (vs : List Float) (is : List ℕ) (x y : Float) (best : Best) (seq : ℕ → ℕ) (i j : ℕ)
+    → best ≡ scanOf vs is x y seq i → covers vs is (seq i) x y ≡ false → j ≡ suc i → best ≡ scanOf vs is x y seq j
+unfolding scanOf
+pass-next vs is x y best seq i j e o n = rw (n, o) e
+
+-- ---- the run
+
+both-true : (p q : Bool) → (p && q) ≡ true → (p ≡ true) × (q ≡ true)
+both-true true true e = (refl, refl)
+both-true true false e = absurd (T-of e)
+both-true false q e = absurd (T-of e)
+
+pub hit-step : (vs : List Float) (is : List ℕ) (x y : Float) (run : List ℕ) (i n : ℕ) {best next : Best} {whole part all : Bool} {low : List Float}
+    → HitOf vs is x y run i best whole
+    → Weighed vs is x y run i n low part
+    → all ≡ (whole && part)
+    → next ≡ scanOf vs is x y (entryOf run) (i + n)
+    → HitOf vs is x y run (i + n) next all
+hit-step vs is x y run i n {whole = whole} {part = part} h w e s =
+    record {
+      found = s;
+      there =
+          λ z k l.
+          let b = both-true whole part (sym e ∙ z) in
+          go (b .0) (b .1) k l (decLt k i);
+    }
+  where
+    go : whole ≡ true → part ≡ true → (k : ℕ) → k < i + n → Dec (k < i) → present vs is (entryOf run k) ≡ true
+    go p q k l (yes m) = h .there p k m
+    go p q k l (no m) =
+        let z : i + (k - i) ≡ k = omega arith in
+        let v : k - i < n = omega arith in
+        subst (λ (j : ℕ). present vs is (entryOf run j) ≡ true) z (w .there q (k - i) v)
+
+-- ---- the entries of a run of triangles that are there are in order
+
+entries-sound : (ws : List ℕ) (count from n : ℕ) → ((k : ℕ) → k < n → wordAt ws (from + k) < count) → entryFault ws count from n ≡ fine
+entries-sound ws count from zero h = entry-none ws count from
+entries-sound ws count from (suc n) h = entry-step ws count from n (entries-sound ws count from n (λ k l. h k (omega arith))) (h n (omega arith))
+
+pub run-sound : (vs : List Float) (is ws : List ℕ) (a e : ℕ) (run : List ℕ) → run ≡ take (e - a) (drop a ws) → e ≤ length ws
+    → ((k : ℕ) → k < length run → present vs is (entryOf run k) ≡ true) → entryFault ws (triangles is) a (e - a) ≡ fine
+run-sound vs is ws a e run same room all =
+    let d : length (drop a ws) ≡ length ws - a = length-drop a ws in
+    let n : length run ≡ e - a = ap length same ∙ length-take-le (e - a) (drop a ws) (omega (arith, d)) in
+    entries-sound ws (triangles is) a (e - a)
+    (λ k l.
+    let q : entryOf run k ≡ wordAt ws (a + k) = ap (λ (o : List ℕ). getD o k 0) same ∙ getD-take (e - a) (drop a ws) k 0 l ∙ getD-drop a ws k 0 in
+    subst (λ (z : ℕ). z < triangles is) q (present-below vs is (entryOf run k) (all k (subst (λ (z : ℕ). k < z) (sym n) l))))
+
+-- ---- what is located
+
+module _ (ws : List ℕ) (count : ℕ) {answer : Answer Place} {d : Consulted} (s : Started ws count answer d) where
+  pub refused-is : {r : Refusal} → d ≡ Refused r → refused (numberOf r) (placeOf r) ≡ answer
+  unfolding Started
+  refused-is e = subst (Started ws count answer) e s
+
+  pub nowhere-is : d ≡ Nowhere → taken nowhere ≡ answer
+  unfolding Started
+  nowhere-is e = subst (Started ws count answer) e s
+
+  pub run-is : {a e : ℕ} → d ≡ Run a e → Runs ws count answer a e
+  unfolding Started
+  run-is e = subst (Started ws count answer) e s

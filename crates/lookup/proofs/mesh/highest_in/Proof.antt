@@ -1,0 +1,101 @@
+-- `lookup::mesh::highest_in` meets its contract. The loop's invariant: `best` is the best of the first i numbers of the run. Assumes nothing.
+use Prim.Native.Nat.{ℕ, _≤_, _-_}
+use mathlib.Core.Path.{_≡_, refl, subst}
+use native.Mathlib.Omega.{arith}
+use lib.ListN.{length}
+use Rattle.lookup.specs.Plain.{scanOf}
+use Rattle.lookup.specs.Sixteen.{HitOf}
+use Rattle.lookup.proofs.Sixteens.{hit-step}
+use borrow.Author.Needs.{needs}
+use Rattle.lookup.proofs.mesh.highest_in.Statement.{statement}
+use Rattle.lookup.proofs.mesh.highest_in.Tie as tie
+
+abbrev Inv-loop : tie.InvT-loop
+Inv-loop vertices indices run x y a₀ b₀ c₀ low₀ best₀ whole₀ i₀ a b c low best whole i = (i ≤ length run) × (length a ≡ length a₀) × (length b ≡ length b₀) × (length c ≡ length c₀) × (length low ≡ length low₀) × HitOf vertices indices x y run i best whole
+
+abbrev μ-loop : tie.MeasureT-loop
+μ-loop vertices indices run x y a₀ b₀ c₀ low₀ best₀ whole₀ i₀ a b c low best whole i = length run - i
+
+loop-holds : tie.Need-loop-holds Inv-loop μ-loop
+unfolding scanOf
+loop-holds c = (omega arith, refl, refl, refl, refl, record { found = refl; there = λ _ k l. absurd (omega arith) })
+
+sub-few-of : tie.Need-sub-few-of Inv-loop μ-loop
+sub-few-of c = search needs
+
+few-of-requires : tie.Need-few-of-requires Inv-loop μ-loop
+few-of-requires c κs = search needs
+
+weigh-part-requires : tie.Need-weigh-part-requires Inv-loop μ-loop
+weigh-part-requires c κs =
+    let f = c .before .before .before .before .few-of .ensures in
+    let l = c .before .before .before .before .before .before .loop in
+    let s = c .before .before .before .before .before .before .before .before .before .before .before .before .before .before in
+    ((omega (arith, f, l .inv, c .before .before .before .before .before), f .2), (omega (arith, s .pre, l .inv), omega (arith, s .pre, l .inv), omega (arith, s .pre, l .inv), omega (arith, s .pre, l .inv)))
+
+both-requires : tie.Need-both-requires Inv-loop μ-loop
+both-requires c κs = search needs
+
+low-turns-requires : tie.Need-low-turns-requires Inv-loop μ-loop
+low-turns-requires c κs =
+    let f = c .before .before .before .before .before .before .before .before .before .before .before .before .before .before .before .few-of .ensures in
+    let l = c .before .before .before .before .before .before .before .before .before .before .before .before .before .before .before .before .before .loop in
+    let s = c .before .before .before .before .before .before .before .before .before .before .before .before .before .before .before .before .before .before .before .before .before .before .before .before .before in
+    ((omega (arith, f, l .inv, c .before .before .before .before .before .before .before .before .before .before .before .before .before .before .before .before), omega (arith, f, s .pre, l .inv, c .before .before)), (c .before .before .before .before .before .before .before .before .before .before .weigh-part .ensures .passing, l .inv .5 .found))
+
+add-i : tie.Need-add-i Inv-loop μ-loop
+add-i c = omega (arith, c .before .before .before .before .before .before .before .before .before .before .before .before .before .before .before .before .few-of .ensures, c .before .before .before .before .before .before .before .before .before .before .before .before .before .before .before .before .before)
+
+loop-less : tie.Need-loop-less Inv-loop μ-loop
+loop-less c = omega (arith, c .before .before .before .before .before .before .before .before .before .before .before .before .before .before .before .before .few-of .ensures, c .before .before .before .before .before .before .before .before .before .before .before .before .before .before .before .before .before)
+
+loop-again : tie.Need-loop-again Inv-loop μ-loop
+loop-again c =
+    let l = c .before .before .before .before .before .before .before .before .before .before .before .before .before .before .before .before .before .before .loop in (
+      omega (arith, c .before .before .before .before .before .before .before .before .before .before .before .before .before .before .before .before .few-of .ensures, c .before .before .before .before .before .before .before .before .before .before .before .before .before .before .before .before .before),
+      search needs,
+      search needs,
+      search needs,
+      search needs,
+      hit-step _ _ _ _ _ _ _ (l .inv .5) (c .before .before .before .before .before .before .before .before .before .before .before .weigh-part .ensures) (c .before .before .both .ensures) (c .low-turns .ensures),
+    )
+
+same-length : tie.Need-same-length Inv-loop μ-loop
+same-length c = search needs
+
+same-length-2 : tie.Need-same-length-2 Inv-loop μ-loop
+same-length-2 c = search needs
+
+same-length-3 : tie.Need-same-length-3 Inv-loop μ-loop
+same-length-3 c = search needs
+
+same-length-4 : tie.Need-same-length-4 Inv-loop μ-loop
+same-length-4 c = search needs
+
+returns : tie.Need-returns Inv-loop μ-loop
+returns c =
+    let l = c .before .loop in
+    let g = c .before .before .before .before .before .before .before .before .before .args in
+    let e : l .i ≡ length (g .run .now) = omega arith in
+    subst (λ (n : ℕ). HitOf (g .vertices .now) (g .indices .now) (g .x) (g .y) (g .run .now) n (l .best) (l .whole)) e (l .inv .5)
+
+pub highest-in-spec : {M : Type 1} → statement M
+highest-in-spec =
+    tie.close
+    (tie.spec
+    Inv-loop
+    μ-loop
+    loop-holds
+    sub-few-of
+    few-of-requires
+    weigh-part-requires
+    both-requires
+    low-turns-requires
+    add-i
+    loop-less
+    loop-again
+    same-length
+    same-length-2
+    same-length-3
+    same-length-4
+    returns)

@@ -1,0 +1,81 @@
+-- What holds between the steps of `highest`, which takes sixteen triangles of a run at a time. A reader of the lookup's contract need not read this. Definitions only.
+-- Assumes nothing.
+use mathlib.Core.Path.{_≡_}
+use Prim.Native.Nat.{ℕ, _+_, _*_, _<_}
+use mathlib.Core.Bool.{Bool, true, false, cond}
+use mathlib.Core.List.{List}
+use lib.ListN.{length, getD}
+use lib.Ieee.{Float, nan, lt}
+use Rattle.vector.specs.Single.{0f}
+use Rattle.vector.specs.declared.coords.Point.{Point}
+use Rattle.lookup.specs.declared.mesh.Best.{Best}
+use Rattle.lookup.specs.declared.mesh.Best.the-variants.{At, Nothing}
+use Rattle.lookup.specs.Mesh.{present, cornerOf}
+use Rattle.lookup.specs.Cover.{slack, weightsOf, insideOf, covers, heightOf}
+use Rattle.lookup.specs.Plain.{higherOf, scanOf, entryOf}
+
+-- the best after triangle t
+unfoldable pub turnOf : List Float → List ℕ → Float → Float → Best → ℕ → Best
+turnOf vs is x y best t = cond (covers vs is t x y) (higherOf best (heightOf vs is t x y) t) best
+
+-- ---- corners on the ground
+
+-- place k of a row of points on the ground
+unfoldable pub groundAt : List Float → ℕ → Point
+groundAt xs k = record { x = getD xs (2 * k) nan; y = getD xs (2 * k + 1) nan; z = 0f }
+
+-- a point stands above another or under it
+pub record Over (p q : Point) : Type 0 where
+  pub same-x : p .x ≡ q .x
+  pub same-y : p .y ≡ q .y
+
+-- place k is under p, and the places before it are as they were
+pub record Grounded (old new : List Float) (k : ℕ) (p : Point) : Type 0 where
+  pub put : Over (groundAt new k) p
+  pub kept : (j : ℕ) → j < k → groundAt new j ≡ groundAt old j
+
+-- triangle t is there, and place k of each row is under a corner of it
+pub record Held (vs : List Float) (is : List ℕ) (t : ℕ) (p q r : Point) : Type 0 where
+  pub there : present vs is t ≡ true
+  pub first : Over p (cornerOf vs is t 0)
+  pub second : Over q (cornerOf vs is t 1)
+  pub third : Over r (cornerOf vs is t 2)
+
+abbrev pub AllHeld : List Float → List ℕ → List ℕ → ℕ → ℕ → List Float → List Float → List Float → Type 0
+AllHeld vs is run from n a b c = (k : ℕ) → k < n → Held vs is (entryOf run (from + k)) (groundAt a k) (groundAt b k) (groundAt c k)
+
+-- ---- least weights
+
+-- number k is too low
+abbrev pub Low : List Float → ℕ → Type 0
+Low low k = lt (getD low k nan) slack ≡ true
+
+-- where number k is too low, the triangle at place k is not over the point
+abbrev pub AllLow : List Float → List Float → List Float → Float → Float → List Float → ℕ → Type 0
+AllLow a b c x y low n = (k : ℕ) → k < n → Low low k → insideOf (weightsOf (groundAt a k) (groundAt b k) (groundAt c k) x y) ≡ false
+
+-- where number k is too low, the triangle that the run names there does not cover the point
+abbrev pub Passing : List Float → List ℕ → Float → Float → List ℕ → ℕ → ℕ → List Float → Type 0
+Passing vs is x y run from n low = (k : ℕ) → k < n → Low low k → covers vs is (entryOf run (from + k)) x y ≡ false
+
+-- no number is too low
+abbrev pub NoneLow : List Float → ℕ → Type 0
+NoneLow low n = (k : ℕ) → k < n → Low low k → ⊥
+
+-- the triangles of a run from a place on are there
+abbrev pub AllThere : List Float → List ℕ → List ℕ → ℕ → ℕ → Type 0
+AllThere vs is run from n = (k : ℕ) → k < n → present vs is (entryOf run (from + k)) ≡ true
+
+pub record Weighed (vs : List Float) (is : List ℕ) (x y : Float) (run : List ℕ) (from n : ℕ) (low : List Float) (whole : Bool) : Type 0 where
+  pub passing : Passing vs is x y run from n low
+  pub there : whole ≡ true → AllThere vs is run from n
+
+-- the best of the first n triangles of a run, and whether all of them are there
+pub record HitOf (vs : List Float) (is : List ℕ) (x y : Float) (run : List ℕ) (n : ℕ) (best : Best) (whole : Bool) : Type 0 where
+  pub found : best ≡ scanOf vs is x y (entryOf run) n
+  pub there : whole ≡ true → (k : ℕ) → k < n → present vs is (entryOf run k) ≡ true
+
+-- the best is one of the triangles that a mesh may have
+unfoldable pub Small : Best → Type 0
+Small (At h t) = t < 65536
+Small Nothing = Unit {0}
