@@ -277,9 +277,7 @@ pub fn normal_of(
     face_up(blend(normals, indices, t, weigh(a, b, c, x, y)))
 }
 
-// ---- the lookup
-
-// ---- the lookup by sixteens
+// ---- the scan of a run, by sixteens
 
 // The best of a run, and whether no triangle of it is missing.
 pub struct Hit {
@@ -507,6 +505,8 @@ pub fn highest(vertices: &[f32], indices: &[u32], run: &[u32], x: f32, y: f32) -
         &mut low,
     )
 }
+
+// ---- the plain lookup
 
 // ---- the plain lookup
 
