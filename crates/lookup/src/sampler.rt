@@ -16,7 +16,7 @@ ghost use Rattle.lookup.specs.Sixteen.{Small};
 ghost use Rattle.lookup.specs.Steps.{Ready};
 ghost use Rattle.lookup.specs.Batch.{wordFor, laneThere, laneId, cutRecord, recordAt, recordsOf, topsOf, readSampling};
 use crate::grid::Consulted;
-use crate::grid::Head;
+use crate::grid::Front;
 use crate::grid::Opened;
 use crate::grid::at;
 use crate::grid::entry_fault;
@@ -245,7 +245,7 @@ fn sample_in(
     indices: &[u32],
     spans: &[u32],
     index: &[u32],
-    h: Head,
+    h: Front,
     x: f32,
     y: f32,
     a: &mut [f32],
@@ -262,17 +262,7 @@ fn sample_in(
         Consulted::Refused(r) => Sampled::Refused(r),
         Consulted::Nowhere => Sampled::None,
         Consulted::Run(from, to) => {
-            let hit = highest_in(
-                vertices,
-                indices,
-                at(index, from, to),
-                x,
-                y,
-                a,
-                b,
-                c,
-                low,
-            );
+            let hit = highest_in(vertices, indices, at(index, from, to), x, y, a, b, c, low);
             let check = run_check(index, indices.len() / 3, from, to, hit.whole);
             if let Check::Faulty(r) = check {
                 return Sampled::Refused(r);
@@ -463,7 +453,7 @@ fn put_point(
     indices: &[u32],
     spans: &[u32],
     index: &[u32],
-    h: Head,
+    h: Front,
     points: &[f32],
     k: usize,
     answers: &mut [u32],
@@ -506,7 +496,7 @@ fn put_open(
     indices: &[u32],
     spans: &[u32],
     index: &[u32],
-    h: Head,
+    h: Front,
     points: &[f32],
     answers: &mut [u32],
 )
@@ -573,16 +563,7 @@ fn put_points(
     match open(index, indices.len() / 3) {
         Opened::Foreign(r) => put_same(answers, points.len() / 2, Sampled::Refused(r)),
         Opened::Empty => put_same(answers, points.len() / 2, Sampled::None),
-        Opened::Open(h) => put_open(
-            vertices,
-            normals,
-            indices,
-            spans,
-            index,
-            h,
-            points,
-            answers,
-        ),
+        Opened::Open(h) => put_open(vertices, normals, indices, spans, index, h, points, answers),
     }
 }
 
