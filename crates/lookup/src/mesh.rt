@@ -453,8 +453,9 @@ fn both(p: bool, q: bool) -> bool
     false
 }
 
-// The best of a run, with room for the corners and weights of sixteen triangles.
-fn highest_in(
+// The best of the triangles that a run of triangle numbers names, in its order. Nearly all go by their least
+// weight: it is worked out for sixteen at a time, first the corners and then the weights, in the room lent.
+pub fn highest_in(
     vertices: &[f32],
     indices: &[u32],
     run: &[u32],
@@ -482,28 +483,6 @@ fn highest_in(
         best: best,
         whole: whole,
     }
-}
-
-// The best of the triangles that a run of triangle numbers names, in its order. Nearly all go by their least
-// weight: it is worked out for sixteen at a time, first the corners and then the weights.
-pub fn highest(vertices: &[f32], indices: &[u32], run: &[u32], x: f32, y: f32) -> Hit
-    ensures { λ r. ⌜ HitOf (now (vertices .entry)) (now (indices .entry)) x y (now (run .entry)) (length (now (run .entry))) (r .best) (r .whole) ⌝ }
-{
-    let mut a = [0f32; 32];
-    let mut b = [0f32; 32];
-    let mut c = [0f32; 32];
-    let mut low = [0f32; 16];
-    highest_in(
-        vertices,
-        indices,
-        run,
-        x,
-        y,
-        &mut a,
-        &mut b,
-        &mut c,
-        &mut low,
-    )
 }
 
 // ---- the plain lookup

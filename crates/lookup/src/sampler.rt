@@ -2,23 +2,28 @@
 ghost use mathlib.Core.Path.{_≡_};
 ghost use mathlib.Core.List.{[], _∷_};
 ghost use mathlib.Core.Bool.{true, false};
-ghost use Prim.Native.Nat.{_+_, _-_, _*_, _/_, _<_, _≤_};
+ghost use Prim.Native.Nat.{ℕ, _+_, _-_, _*_, _/_, _<_, _≤_};
 ghost use lib.Dec.{eqb};
 ghost use lib.ListN.{length};
-ghost use Rattle.shape.specs.Gather.{any};
+ghost use Rattle.shape.specs.Gather.{any, gather};
 ghost use Rattle.shape.specs.Refusal.{fine, taken, found, numberOf, placeOf, leaves};
 ghost use Rattle.shape.specs.Lists.{runBad, meshFault, meshLists};
 ghost use Rattle.shape.specs.Memory.{Put};
 ghost use Rattle.lookup.specs.Sampler.{EndsRise, pastOf, laneOf, topFault, readSampled, sampleOf, topOf};
 ghost use Rattle.lookup.specs.Consult.{entryFault};
+ghost use Rattle.lookup.specs.Mesh.{triangles};
 ghost use Rattle.lookup.specs.Sixteen.{Small};
+ghost use Rattle.lookup.specs.Steps.{Ready};
 ghost use Rattle.lookup.specs.Batch.{wordFor, laneThere, laneId, cutRecord, recordAt, recordsOf, topsOf, readSampling};
 use crate::grid::Consulted;
+use crate::grid::Front;
+use crate::grid::Opened;
 use crate::grid::at;
 use crate::grid::entry_fault;
 use crate::grid::locate;
+use crate::grid::open;
 use crate::mesh::Best;
-use crate::mesh::highest;
+use crate::mesh::highest_in;
 use crate::mesh::normal_of;
 use rounding::bits::bits32;
 use shape::lists::mesh_fault;
@@ -232,8 +237,43 @@ fn told(
     Sampled::Found(h, normal, t, lane_of(spans, t))
 }
 
-// The answer at (x, y) where the five lists are in order: the highest of the point's candidates, of the
-// lowest number among equals, with its height, normal, number and lane.
+// The answer at (x, y) where the five lists are in order and the index's first words are h: the highest of
+// the point's candidates, of the lowest number among equals, with its height, normal, number and lane.
+fn sample_in(
+    vertices: &[f32],
+    normals: &[f32],
+    indices: &[u32],
+    spans: &[u32],
+    index: &[u32],
+    h: Front,
+    x: f32,
+    y: f32,
+    a: &mut [f32],
+    b: &mut [f32],
+    c: &mut [f32],
+    low: &mut [f32],
+) -> Sampled
+    requires { ⌜ topFault (meshLists (now vertices) (now normals) (now indices) (now spans)) (now index) ≡ fine ⌝ }
+    requires { ⌜ Ready (now index) (triangles (now indices)) h ⌝ }
+    requires { ⌜ (32 ≤ length (now a)) × (32 ≤ length (now b)) × (32 ≤ length (now c)) × (16 ≤ length (now low)) ⌝ }
+    ensures { λ r. ⌜ readSampled r ≡ topOf (meshLists (now (vertices .entry)) (now (normals .entry)) (now (indices .entry)) (now (spans .entry))) (now (index .entry)) x y ⌝ }
+{
+    match locate(index, h, x, y) {
+        Consulted::Refused(r) => Sampled::Refused(r),
+        Consulted::Nowhere => Sampled::None,
+        Consulted::Run(from, to) => {
+            let hit = highest_in(vertices, indices, at(index, from, to), x, y, a, b, c, low);
+            let check = run_check(index, indices.len() / 3, from, to, hit.whole);
+            if let Check::Faulty(r) = check {
+                return Sampled::Refused(r);
+            }
+            let best = hit.best;
+            told(vertices, normals, indices, spans, x, y, best)
+        }
+    }
+}
+
+// The answer at (x, y) where the five lists are in order.
 fn sample(
     vertices: &[f32],
     normals: &[f32],
@@ -246,17 +286,28 @@ fn sample(
     requires { ⌜ topFault (meshLists (now vertices) (now normals) (now indices) (now spans)) (now index) ≡ fine ⌝ }
     ensures { λ r. ⌜ readSampled r ≡ topOf (meshLists (now (vertices .entry)) (now (normals .entry)) (now (indices .entry)) (now (spans .entry))) (now (index .entry)) x y ⌝ }
 {
-    match locate(index, indices.len() / 3, x, y) {
-        Consulted::Refused(r) => Sampled::Refused(r),
-        Consulted::Nowhere => Sampled::None,
-        Consulted::Run(a, e) => {
-            let hit = highest(vertices, indices, at(index, a, e), x, y);
-            let check = run_check(index, indices.len() / 3, a, e, hit.whole);
-            if let Check::Faulty(r) = check {
-                return Sampled::Refused(r);
-            }
-            let best = hit.best;
-            told(vertices, normals, indices, spans, x, y, best)
+    match open(index, indices.len() / 3) {
+        Opened::Foreign(r) => Sampled::Refused(r),
+        Opened::Empty => Sampled::None,
+        Opened::Open(h) => {
+            let mut a = [0f32; 32];
+            let mut b = [0f32; 32];
+            let mut c = [0f32; 32];
+            let mut low = [0f32; 16];
+            sample_in(
+                vertices,
+                normals,
+                indices,
+                spans,
+                index,
+                h,
+                x,
+                y,
+                &mut a,
+                &mut b,
+                &mut c,
+                &mut low,
+            )
         }
     }
 }
@@ -402,22 +453,100 @@ fn put_point(
     indices: &[u32],
     spans: &[u32],
     index: &[u32],
+    h: Front,
     points: &[f32],
     k: usize,
     answers: &mut [u32],
     at: usize,
+    a: &mut [f32],
+    b: &mut [f32],
+    c: &mut [f32],
+    low: &mut [f32],
 ) -> usize
     requires { ⌜ topFault (meshLists (now vertices) (now normals) (now indices) (now spans)) (now index) ≡ fine ⌝ }
+    requires { ⌜ Ready (now index) (triangles (now indices)) h ⌝ }
     requires { ⌜ (k < length (now points) / 2) × (at + 8 ≤ length (now answers)) ⌝ }
+    requires { ⌜ (32 ≤ length (now a)) × (32 ≤ length (now b)) × (32 ≤ length (now c)) × (16 ≤ length (now low)) ⌝ }
     ensures { λ r. ⌜ Put (now (answers .entry)) (now (answers .exit)) at (recordAt (meshLists (now (vertices .entry)) (now (normals .entry)) (now (indices .entry)) (now (spans .entry))) (now (index .entry)) (now (points .entry)) k) r ⌝ }
 {
     let x = points[2 * k];
     let y = points[2 * k + 1];
-    let s = sample(vertices, normals, indices, spans, index, x, y);
+    let s = sample_in(
+        vertices,
+        normals,
+        indices,
+        spans,
+        index,
+        h,
+        x,
+        y,
+        a,
+        b,
+        c,
+        low,
+    );
     put_record(answers, at, s)
 }
 
-// The records of all points, at the front of `answers`.
+// The records of all points, at the front of `answers`, where cells may be consulted. What is lent on to
+// each point is made once.
+fn put_open(
+    vertices: &[f32],
+    normals: &[f32],
+    indices: &[u32],
+    spans: &[u32],
+    index: &[u32],
+    h: Front,
+    points: &[f32],
+    answers: &mut [u32],
+)
+    requires { ⌜ topFault (meshLists (now vertices) (now normals) (now indices) (now spans)) (now index) ≡ fine ⌝ }
+    requires { ⌜ Ready (now index) (triangles (now indices)) h ⌝ }
+    requires { ⌜ 8 * (length (now points) / 2) ≤ length (now answers) ⌝ }
+    ensures { λ _. ⌜ Put (now (answers .entry)) (now (answers .exit)) 0 (recordsOf (meshLists (now (vertices .entry)) (now (normals .entry)) (now (indices .entry)) (now (spans .entry))) (now (index .entry)) (now (points .entry))) (8 * (length (now (points .entry)) / 2)) ⌝ }
+{
+    let n = points.len() / 2;
+    let mut a = [0f32; 32];
+    let mut b = [0f32; 32];
+    let mut c = [0f32; 32];
+    let mut low = [0f32; 16];
+    let mut at: usize = 0;
+    let mut k: usize = 0;
+    while k < n {
+        at = put_point(
+            vertices,
+            normals,
+            indices,
+            spans,
+            index,
+            h,
+            points,
+            k,
+            answers,
+            at,
+            &mut a,
+            &mut b,
+            &mut c,
+            &mut low,
+        );
+        k += 1;
+    }
+}
+
+// The record of one answer n times, at the front of `answers`.
+fn put_same(answers: &mut [u32], n: usize, s: Sampled)
+    requires { ⌜ 8 * n ≤ length (now answers) ⌝ }
+    ensures { λ _. ⌜ Put (now (answers .entry)) (now (answers .exit)) 0 (gather (λ (k : ℕ). cutRecord (readSampled s)) n) (8 * n) ⌝ }
+{
+    let mut at: usize = 0;
+    let mut k: usize = 0;
+    while k < n {
+        at = put_record(answers, at, s);
+        k += 1;
+    }
+}
+
+// The records of all points, at the front of `answers`. The index's first words are looked at once.
 fn put_points(
     vertices: &[f32],
     normals: &[f32],
@@ -431,22 +560,10 @@ fn put_points(
     requires { ⌜ 8 * (length (now points) / 2) ≤ length (now answers) ⌝ }
     ensures { λ _. ⌜ Put (now (answers .entry)) (now (answers .exit)) 0 (recordsOf (meshLists (now (vertices .entry)) (now (normals .entry)) (now (indices .entry)) (now (spans .entry))) (now (index .entry)) (now (points .entry))) (8 * (length (now (points .entry)) / 2)) ⌝ }
 {
-    let n = points.len() / 2;
-    let mut at: usize = 0;
-    let mut k: usize = 0;
-    while k < n {
-        at = put_point(
-            vertices,
-            normals,
-            indices,
-            spans,
-            index,
-            points,
-            k,
-            answers,
-            at,
-        );
-        k += 1;
+    match open(index, indices.len() / 3) {
+        Opened::Foreign(r) => put_same(answers, points.len() / 2, Sampled::Refused(r)),
+        Opened::Empty => put_same(answers, points.len() / 2, Sampled::None),
+        Opened::Open(h) => put_open(vertices, normals, indices, spans, index, h, points, answers),
     }
 }
 
