@@ -14,3 +14,4 @@ pub mod Level
 pub mod Picking
 pub mod Tallies
 pub mod Sixteens
+pub mod Answers
