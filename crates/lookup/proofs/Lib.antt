@@ -15,3 +15,4 @@ pub mod Picking
 pub mod Tallies
 pub mod Sixteens
 pub mod Answers
+pub mod Fronts
