@@ -1,44 +1,22 @@
--- What is opened, located and scanned picks the case of `topOf`. Assumes nothing.
+-- What is located and scanned picks the case of `topOf`. Assumes nothing.
 use Prim.Native.Nat.{ℕ, _-_, _<_}
-use mathlib.Core.Path.{_≡_, sym, subst}
+use mathlib.Core.Path.{_≡_, sym}
 use mathlib.Core.List.{List}
 use native.Mathlib.Omega.{arith}
 use lib.ListN.{length, take, drop}
 use lib.Ieee.{Float}
-use Rattle.shape.specs.declared.refusal.Refusal.{Refusal}
-use Rattle.shape.specs.Refusal.{fine, judge, taken, refused, numberOf, placeOf}
+use Rattle.shape.specs.Refusal.{fine, judge, taken, refused}
 use Rattle.shape.specs.Lists.{Mesh}
-use Rattle.lookup.specs.declared.grid.Front.{Front}
-use Rattle.lookup.specs.declared.grid.Opened.{Opened}
-use Rattle.lookup.specs.declared.grid.Opened.the-variants.{Open, Empty, Foreign}
 use Rattle.lookup.specs.declared.mesh.Best.{Best}
 use Rattle.lookup.specs.declared.mesh.Best.the-variants.{At, Nothing}
 use Rattle.lookup.specs.Mesh.{triangles}
 use Rattle.lookup.specs.Plain.{scanOf, entryOf}
 use Rattle.lookup.specs.Consult.{runIn, nowhere, run, consultOf}
-use Rattle.lookup.specs.Steps.{Ready, Opens}
 use Rattle.lookup.specs.Sampler.{topFault, miss, sampleIn, sampleOf, onward, topOf}
 use Rattle.lookup.specs.Sixteen.{Small}
 use Rattle.lookup.specs.Laws.Scan.{scan-found}
 use Rattle.lookup.specs.Laws.Plain.{covers-below}
 use Rattle.lookup.specs.Laws.Limits.{InOrder, in-order, mesh-in-order}
-
--- ---- what is opened
-
-module _ (ws : List ℕ) (count : ℕ) {o : Opened} (s : Opens ws count o) where
-  pub foreign-is : {r : Refusal} → o ≡ Foreign r → (x y : Float) → refused (numberOf r) (placeOf r) ≡ consultOf ws count x y
-  unfolding Opens
-  foreign-is e = subst (Opens ws count) e s
-
-  pub empty-is : o ≡ Empty → (x y : Float) → taken nowhere ≡ consultOf ws count x y
-  unfolding Opens
-  empty-is e = subst (Opens ws count) e s
-
-  pub ready-is : {h : Front} → o ≡ Open h → Ready ws count h
-  unfolding Opens
-  ready-is e = subst (Opens ws count) e s
-
--- ---- the answer
 
 module _ (m : Mesh) (ws : List ℕ) (x y : Float) (f : topFault m ws ≡ fine) where
   pub ordered : InOrder m

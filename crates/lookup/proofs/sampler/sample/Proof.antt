@@ -3,7 +3,8 @@ use mathlib.Core.Path.{refl}
 use native.Mathlib.Omega.{arith}
 use Rattle.shape.specs.Lists.{Mesh, meshLists}
 use Rattle.lookup.specs.Sampler.{readSampled}
-use Rattle.lookup.proofs.Answers.{foreign-is, empty-is, ready-is, refuses, nothing}
+use Rattle.lookup.proofs.Fronts.{open-is, empty-is, foreign-is}
+use Rattle.lookup.proofs.Answers.{refuses, nothing}
 use borrow.Author.Needs.{needs}
 use Rattle.lookup.proofs.sampler.sample.Statement.{statement}
 use Rattle.lookup.proofs.sampler.sample.Tie as tie
@@ -37,7 +38,7 @@ slice-aggregate-sample-in-4 : tie.Need-slice-aggregate-sample-in-4
 slice-aggregate-sample-in-4 c = refl
 
 sample-in-requires : tie.Need-sample-in-requires
-sample-in-requires c κs = (c .before .before .before .before .before .before .before .before .before .before .before .before .before .pre, (ready-is _ _ (c .before .before .before .before .before .before .before .«open» .ensures) (c .before .before .before .before .before .h .given .1), (omega arith, omega arith, omega arith, omega arith)))
+sample-in-requires c κs = (c .before .before .before .before .before .before .before .before .before .before .before .before .before .pre, (open-is _ _ (c .before .before .before .before .before .before .before .«open» .ensures) (c .before .before .before .before .before .h .given .1), (omega arith, omega arith, omega arith, omega arith)))
 
 returns : tie.Need-returns
 unfolding readSampled
