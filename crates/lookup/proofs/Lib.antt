@@ -14,4 +14,5 @@ pub mod Level
 pub mod Picking
 pub mod Tallies
 pub mod Sixteens
+pub mod Answers
 pub mod Fronts

@@ -1,4 +1,4 @@
--- `lookup::sampler::put_point` meets its contract: the answer there is `sample`'s, and no number of it is cut. Assumes nothing.
+-- `lookup::sampler::put_point` meets its contract: the answer there is `sample_in`'s, and no number of it is cut. Assumes nothing.
 use Rattle.shape.specs.Lists.{meshLists}
 use Rattle.lookup.specs.Batch.{recordAt}
 use Rattle.lookup.specs.Laws.Batch.{uncut}
@@ -28,18 +28,32 @@ mul-y-2 c = search needs
 shared-slice-read-y : tie.Need-shared-slice-read-y
 shared-slice-read-y c = search needs
 
-sample-requires : tie.Need-sample-requires
-sample-requires c κs = search needs
+sample-in-requires : tie.Need-sample-in-requires
+sample-in-requires c κs = let s = c .before .before .before .before .before .before .before .before .before .before .before .before .before .before .before .before .before in (s .pre .0, (s .pre .1 .0, s .pre .1 .1 .1))
 
 put-record-requires : tie.Need-put-record-requires
-put-record-requires c κs = search needs
+put-record-requires c κs = omega (arith, c .before .before .before .before .before .before .before .before .before .before .before .before .before .before .before .before .before .before .before .before .before .before .before .before .before .before .before .pre .1 .1 .0)
 
 same-length : tie.Need-same-length
 same-length c = search needs
 
+same-length-2 : tie.Need-same-length-2
+same-length-2 c = search needs
+
+same-length-3 : tie.Need-same-length-3
+same-length-3 c = search needs
+
+same-length-4 : tie.Need-same-length-4
+same-length-4 c = search needs
+
+same-length-5 : tie.Need-same-length-5
+same-length-5 c = search needs
+
 returns : tie.Need-returns
 unfolding recordAt
-returns c = rw (← uncut (meshLists (c .before .before .before .before .before .before .before .before .before .before .before .before .before .before .args .vertices .now) (c .before .before .before .before .before .before .before .before .before .before .before .before .before .before .args .normals .now) (c .before .before .before .before .before .before .before .before .before .before .before .before .before .before .args .indices .now) (c .before .before .before .before .before .before .before .before .before .before .before .before .before .before .args .spans .now)) _ _ _ (c .before .before .before .before .before .before .before .before .before .before .before .before .before .before .pre .0) (λ i. omega (arith, c .before .before .before .before .before .before .before .before .before .before .shared-slice-known4 .given i)), ← c .before .before .before .before .sample .ensures) (c .before .before .put-record .ensures)
+returns c =
+    let s = c .before .before .before .before .before .before .before .before .before .before .before .before .before .before .before .before .before .before .before .before .before .before .before .before .before .before .before .before .before .before in
+    rw (← uncut (meshLists (s .args .vertices .now) (s .args .normals .now) (s .args .indices .now) (s .args .spans .now)) _ _ _ (s .pre .0) (λ i. omega (arith, c .before .before .before .before .before .before .before .before .before .before .before .before .before .before .before .before .before .before .before .before .before .before .before .before .before .before .shared-slice-known4 .given i)), ← c .before .before .before .before .before .before .before .before .before .before .before .before .sample-in .ensures) (c .before .before .put-record .ensures)
 
 pub put-point-spec : {M : Type 1} → statement M
 put-point-spec =
@@ -52,7 +66,11 @@ put-point-spec =
     add-y
     mul-y-2
     shared-slice-read-y
-    sample-requires
+    sample-in-requires
     put-record-requires
     same-length
+    same-length-2
+    same-length-3
+    same-length-4
+    same-length-5
     returns)

@@ -1,57 +1,79 @@
--- `lookup::sampler::put_points` meets its contract. The invariant: the records of the points before k stand at the front. Assumes nothing.
-use Prim.Native.Nat.{_-_, _*_, _/_, _≤_}
-use mathlib.Core.Path.{_≡_}
+-- `lookup::sampler::put_points` meets its contract: what is opened is one answer at every point, or each point is looked up. Assumes nothing.
 use native.Mathlib.Omega.{arith}
-use lib.ListN.{length}
-use Rattle.shape.specs.Gather.{gather}
-use Rattle.shape.specs.Lists.{meshLists}
-use Rattle.shape.specs.Memory.{Put}
-use Rattle.shape.specs.Laws.Memory.{put-none, put-turn, put-length}
-use Rattle.lookup.specs.Batch.{recordAt, recordsOf}
-use Rattle.lookup.proofs.Batches.{at-next}
-use Prim.Native.Nat.{_-_, _*_, _≤_}
+use Rattle.shape.specs.Lists.{Mesh, meshLists}
+use Rattle.lookup.specs.Sampler.{readSampled}
+use Rattle.lookup.proofs.Fronts.{open-is, empty-is, foreign-is}
+use Rattle.lookup.proofs.Answers.{refuses, nothing}
+use Rattle.lookup.proofs.Batches.{all-same}
+use borrow.Author.Needs.{needs}
 use Rattle.lookup.proofs.sampler.put_points.Statement.{statement}
 use Rattle.lookup.proofs.sampler.put_points.Tie as tie
 
-abbrev Inv-loop : tie.InvT-loop
-Inv-loop vertices normals indices spans index points answers₀ n at₀ k₀ answers at k = Put answers₀ answers 0 (gather (recordAt (meshLists vertices normals indices spans) index points) k) at × ((at ≡ 8 * k) × (k ≤ n))
+-- the mesh
+abbrev M : tie.Start → Mesh
+M s = meshLists (s .args .vertices .now) (s .args .normals .now) (s .args .indices .now) (s .args .spans .now)
 
-abbrev μ-loop : tie.MeasureT-loop
-μ-loop vertices normals indices spans index points answers₀ n at₀ k₀ answers at k = n - k
+open-requires : tie.Need-open-requires
+open-requires c κs = search needs
 
-loop-holds : tie.Need-loop-holds Inv-loop μ-loop
-unfolding gather
-loop-holds c = (put-none _ 0, omega arith)
+enum-known-r : tie.Need-enum-known-r
+enum-known-r c = search needs
 
-put-point-requires : tie.Need-put-point-requires Inv-loop μ-loop
-put-point-requires c κs = (c .before .before .before .before .before .before .before .before .before .before .pre .0, omega (arith, c .before .before .loop .inv .1 .0, c .before .before .loop .inv .1 .1, put-length (c .before .before .loop .inv .0), c .before .before .before .before .before .before .before .before .before .before .pre .1, c .before .loop-test))
+put-same-requires : tie.Need-put-same-requires
+put-same-requires c κs = search needs
 
-add-k : tie.Need-add-k Inv-loop μ-loop
-add-k c = omega arith
+enum-told : tie.Need-enum-told
+enum-told c = search needs
 
-loop-less : tie.Need-loop-less Inv-loop μ-loop
-loop-less c = omega arith
+put-same-requires-2 : tie.Need-put-same-requires-2
+put-same-requires-2 c κs = search needs
 
-loop-again : tie.Need-loop-again Inv-loop μ-loop
-loop-again c = (put-turn (recordAt _ _ _) _ (c .before .before .before .before .before .loop .inv .0) (c .before .before .put-point .ensures), omega (arith, at-next _ _ _ _ (c .before .before .put-point .ensures)))
+enum-known-h : tie.Need-enum-known-h
+enum-known-h c = search needs
 
-same-length : tie.Need-same-length Inv-loop μ-loop
-same-length c = put-length (c .before .loop .inv .0)
+put-open-requires : tie.Need-put-open-requires
+put-open-requires c κs =
+    let s = c .before .before .before .before .before .before .before .before .before .before .before .before in
+    (s .pre .0, (open-is _ _ (c .before .before .before .before .«open» .ensures) (c .before .before .h .given .1), s .pre .1))
 
-returns : tie.Need-returns Inv-loop μ-loop
-unfolding recordsOf
-returns c = let e : c .before .loop .k ≡ length (c .before .before .before .before .before .before .before .before .before .args .points .now) / 2 = omega arith in let a : c .before .loop .at ≡ 8 * (length (c .before .before .before .before .before .before .before .before .before .args .points .now) / 2) = omega arith in rw (e, a) at (c .before .loop .inv .0)
+same-length : tie.Need-same-length
+same-length c = search needs
+
+returns : tie.Need-returns
+unfolding readSampled
+returns c =
+    let s = c .before .before .before .before .before .before .before .before .before .before .before .before .before .before .before in
+    rw (← all-same (M s) (s .args .index .now) (s .args .points .now) (s .pre .0) (λ i. omega (arith, c .before .before .before .before .before .before .before .before .before .before .before .shared-slice-known4 .given i)) _ (λ x y. refuses (M s) _ x y (s .pre .0) (foreign-is _ _ (c .before .before .before .before .before .before .before .«open» .ensures) (c .before .before .before .before .before .r .given .1) x y))) (c .before .before .put-same .ensures)
+
+same-length-2 : tie.Need-same-length-2
+same-length-2 c = search needs
+
+returns-2 : tie.Need-returns-2
+unfolding readSampled
+returns-2 c =
+    let s = c .before .before .before .before .before .before .before .before .before .before .before .before .before .before in
+    rw (← all-same (M s) (s .args .index .now) (s .args .points .now) (s .pre .0) (λ i. omega (arith, c .before .before .before .before .before .before .before .before .before .before .shared-slice-known4 .given i)) _ (λ x y. nothing (M s) _ x y (s .pre .0) (empty-is _ _ (c .before .before .before .before .before .before .«open» .ensures) (c .before .before .before .before .enum-told .given .1) x y))) (c .before .before .put-same2 .ensures)
+
+same-length-3 : tie.Need-same-length-3
+same-length-3 c = search needs
+
+returns-3 : tie.Need-returns-3
+returns-3 c = search needs
 
 pub put-points-spec : {M : Type 1} → statement M
 put-points-spec =
     tie.close
     (tie.spec
-    Inv-loop
-    μ-loop
-    loop-holds
-    put-point-requires
-    add-k
-    loop-less
-    loop-again
+    open-requires
+    enum-known-r
+    put-same-requires
+    enum-told
+    put-same-requires-2
+    enum-known-h
+    put-open-requires
     same-length
-    returns)
+    returns
+    same-length-2
+    returns-2
+    same-length-3
+    returns-3)

@@ -1,0 +1,121 @@
+-- `lookup::sampler::sample_in` meets its contract: what is located and what the scan finds pick the case of `topOf`. Assumes nothing.
+use mathlib.Core.Path.{_∙_}
+use Rattle.shape.specs.Lists.{Mesh, meshLists}
+use Rattle.lookup.specs.Sampler.{readSampled}
+use Rattle.lookup.proofs.Answers.{ordered, refuses, nothing, gives, small}
+use Rattle.lookup.proofs.Chain.{sound, faulty}
+use Rattle.lookup.proofs.Sixteens.{run-sound, refused-is, nowhere-is, run-is}
+use borrow.Author.Needs.{needs}
+use Rattle.lookup.proofs.sampler.sample_in.Statement.{statement}
+use Rattle.lookup.proofs.sampler.sample_in.Tie as tie
+
+-- the mesh
+abbrev M : tie.Start → Mesh
+M s = meshLists (s .args .vertices .now) (s .args .normals .now) (s .args .indices .now) (s .args .spans .now)
+
+locate-requires : tie.Need-locate-requires
+locate-requires c κs = (c .before .before .before .before .before .before .before .before .before .pre .1 .0 .sided, c .before .before .before .before .before .before .before .before .before .pre .1 .0 .is)
+
+enum-known-r : tie.Need-enum-known-r
+enum-known-r c = search needs
+
+enum-told : tie.Need-enum-told
+enum-told c = search needs
+
+enum-known-from : tie.Need-enum-known-from
+enum-known-from c = search needs
+
+at-requires : tie.Need-at-requires
+at-requires c κs = search needs
+
+highest-in-requires : tie.Need-highest-in-requires
+highest-in-requires c κs = c .before .before .before .before .before .before .before .before .before .before .before .before .before .before .before .before .before .before .pre .1 .1
+
+run-check-requires : tie.Need-run-check-requires
+run-check-requires c κs = λ w r. run-sound _ _ _ _ _ _ (c .before .before .before .before .before .before .before .before .before .before .before .before .before .at .ensures) r (c .before .before .before .before .before .before .before .before .highest-in .ensures .there w)
+
+enum-known-check : tie.Need-enum-known-check
+enum-known-check c = search needs
+
+same-length : tie.Need-same-length
+same-length c = search needs
+
+same-length-2 : tie.Need-same-length-2
+same-length-2 c = search needs
+
+same-length-3 : tie.Need-same-length-3
+same-length-3 c = search needs
+
+same-length-4 : tie.Need-same-length-4
+same-length-4 c = search needs
+
+returns : tie.Need-returns
+unfolding readSampled
+returns c =
+    let s = c .before .before .before .before .before .before .before .before .before .before .before .before .before .before .before .before .before .before .before .before .before .before .before .before .before .before .before .before .before .before .before in
+    refuses (M s) _ _ _ (s .pre .0) (run-is _ _ (c .before .before .before .before .before .before .before .before .before .before .before .before .before .before .before .before .before .before .before .before .before .locate .ensures _ (s .pre .1 .0 .sound)) (c .before .before .before .before .before .before .before .before .before .before .before .before .before .before .before .before .before .before .before .from .given .1) .foreign _ _ (faulty (c .before .check .given .1) (c .before .before .before .run-check .ensures)))
+
+enum-told-2 : tie.Need-enum-told-2
+enum-told-2 c = search needs
+
+told-requires : tie.Need-told-requires
+told-requires c κs =
+    let s = c .before .before .before .before .before .before .before .before .before .before .before .before .before .before .before .before .before .before .before .before .before .before .before .before .before .before .before .before .before .before in
+    let o = ordered (M s) _ (s .args .x) (s .args .y) (s .pre .0) in
+    (small (M s) _ (s .args .x) (s .args .y) (s .pre .0) _ (c .before .before .before .before .before .before .before .before .before .before .before .before .before .before .before .before .at .ensures) _ (c .before .before .before .before .before .before .before .before .before .before .before .highest-in .ensures .found), o .spans, o .ends)
+
+returns-2 : tie.Need-returns-2
+unfolding readSampled
+returns-2 c =
+    let s = c .before .before .before .before .before .before .before .before .before .before .before .before .before in
+    refuses (M s) _ _ _ (s .pre .0) (refused-is _ _ (c .before .before .before .locate .ensures _ (s .pre .1 .0 .sound)) (c .before .r .given .1))
+
+returns-3 : tie.Need-returns-3
+unfolding readSampled
+returns-3 c =
+    let s = c .before .before .before .before .before .before .before .before .before .before .before .before in
+    nothing (M s) _ _ _ (s .pre .0) (nowhere-is _ _ (c .before .before .locate .ensures _ (s .pre .1 .0 .sound)) (c .enum-told .given .1))
+
+same-length-5 : tie.Need-same-length-5
+same-length-5 c = search needs
+
+same-length-6 : tie.Need-same-length-6
+same-length-6 c = search needs
+
+same-length-7 : tie.Need-same-length-7
+same-length-7 c = search needs
+
+same-length-8 : tie.Need-same-length-8
+same-length-8 c = search needs
+
+returns-4 : tie.Need-returns-4
+returns-4 c =
+    let s = c .before .before .before .before .before .before .before .before .before .before .before .before .before .before .before .before .before .before .before .before .before .before .before .before .before .before .before .before .before .before .before in
+    c .told .ensures ∙ gives (M s) _ _ _ (s .pre .0) (run-is _ _ (c .before .before .before .before .before .before .before .before .before .before .before .before .before .before .before .before .before .before .before .before .before .locate .ensures _ (s .pre .1 .0 .sound)) (c .before .before .before .before .before .before .before .before .before .before .before .before .before .before .before .before .before .before .before .from .given .1) .sound (sound (c .before .enum-told2 .given .1) (c .before .before .before .run-check .ensures))) (c .before .before .before .before .before .before .before .before .before .before .before .before .before .before .before .before .before .at .ensures) (c .before .before .before .before .before .before .before .before .before .before .before .before .highest-in .ensures .found)
+
+pub sample-in-spec : {M : Type 1} → statement M
+sample-in-spec =
+    tie.close
+    (tie.spec
+    locate-requires
+    enum-known-r
+    enum-told
+    enum-known-from
+    at-requires
+    highest-in-requires
+    run-check-requires
+    enum-known-check
+    same-length
+    same-length-2
+    same-length-3
+    same-length-4
+    returns
+    enum-told-2
+    told-requires
+    returns-2
+    returns-3
+    same-length-5
+    same-length-6
+    same-length-7
+    same-length-8
+    returns-4)
