@@ -1,4 +1,4 @@
--- The steps by which `highest` goes through a run, sixteen triangles at a time, and what `locate` says of it. Assumes nothing.
+-- The steps by which `highest_in` goes through a run, sixteen triangles at a time, and what `locate` says of it. Assumes nothing.
 use mathlib.Core.Path.{_≡_, refl, sym, ap, _∙_, subst}
 use mathlib.Core.Logic.{⊎-elim}
 use mathlib.Core.Bool.{Bool, true, false, _&&_}

@@ -1,4 +1,4 @@
--- What holds between the steps of `highest`, which takes sixteen triangles of a run at a time. A reader of the lookup's contract need not read this. Definitions only.
+-- What holds between the steps of `highest_in`, which takes sixteen triangles of a run at a time. A reader of the lookup's contract need not read this. Definitions only.
 -- Assumes nothing.
 use mathlib.Core.Path.{_≡_}
 use Prim.Native.Nat.{ℕ, _+_, _*_, _<_}
