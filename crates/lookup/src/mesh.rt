@@ -487,8 +487,6 @@ pub fn highest_in(
 
 // ---- the plain lookup
 
-// ---- the plain lookup
-
 // The best of all triangles, by their numbers.
 fn highest_of_all(vertices: &[f32], indices: &[u32], x: f32, y: f32) -> Best
     ensures { λ r. ⌜ r ≡ scanOf (now (vertices .entry)) (now (indices .entry)) x y (λ t. t) (triangles (now (indices .entry))) ⌝ }
