@@ -6,14 +6,8 @@ use native.Mathlib.Omega.{arith}
 use native.Mathlib.Nat.{le-refl}
 use Rattle.shape.specs.Lists.{endOf}
 use Rattle.lookup.specs.Sampler.{EndsRise, pastOf}
+use Rattle.lookup.specs.Steps.{Halved}
 use Rattle.lookup.specs.Laws.Spans.{past-is}
-
--- the spans below `low` do not end past i, and span `high`, if there is one, does
-pub record Halved (ss : List ℕ) (i n low high : ℕ) : Type 0 where
-  pub order : low ≤ high
-  pub within : high ≤ n
-  pub before : (j : ℕ) → j < low → endOf 5 3 ss j ≤ i
-  pub past : high < n → i < endOf 5 3 ss high
 
 module _ (ss : List ℕ) (i n : ℕ) where
   pub whole : Halved ss i n 0 n

@@ -190,27 +190,30 @@ pub fn tell_built(answer: &mut [u64], a: Built) -> u64
     }
 }
 
-pub fn tell_sampled(answer: &mut [u64], a: Sampled) -> u64
-    requires { ⌜ 8 ≤ length (now answer) ⌝ }
-    ensures { λ r. ⌜ Told (readSampled a) sampleWords (now (answer .entry)) (now (answer .exit)) r ⌝ }
+// The record of a point, word by word, or why its cell is refused.
+fn tell_words(answer: &mut [u64], words: &[u32]) -> u64
+    requires { ⌜ (8 ≤ length (now answer)) × (length (now words) ≡ 8) ⌝ }
+    ensures { λ r. ⌜ ((a : Answer Sample) → now (words .entry) ≡ recordOf a → Told a sampleWords (now (answer .entry)) (now (answer .exit)) r) ⌝ }
+{
+    if words[0] == 2 {
+        return wide(words[1]) * 0x1_0000_0000 + wide(words[2]);
+    }
+    let mut k: usize = 0;
+    while k < 8 {
+        answer[k] = wide(words[k]);
+        k += 1;
+    }
+    0
+}
+
+// What is told of one point by the call for many.
+pub fn tell_record(answer: &mut [u64], a: Sampling, words: &[u32]) -> u64
+    requires { ⌜ (8 ≤ length (now answer)) × (length (now words) ≡ 8) ⌝ }
+    ensures { λ r. ⌜ ((f : Fault) (s : Answer Sample) → readSampling a ≡ judge f (taken 1) → (f ≡ fine → now (words .entry) ≡ recordOf s) → Told (judge f s) sampleWords (now (answer .entry)) (now (answer .exit)) r) ⌝ }
 {
     match a {
-        Sampled::Found(h, n, t, l) => {
-            answer[0] = 1;
-            answer[1] = wide(bits32(h));
-            answer[2] = wide(bits32(n.x));
-            answer[3] = wide(bits32(n.y));
-            answer[4] = wide(bits32(n.z));
-            answer[5] = t as u64;
-            answer[6] = wide(lane_there(l));
-            answer[7] = lane_id(l) as u64;
-            0
-        }
-        Sampled::None => {
-            clear(answer, 8);
-            0
-        }
-        Sampled::Refused(r) => code(r),
+        Sampling::Refused(r) => code(r),
+        Sampling::Count(n) => tell_words(answer, words),
     }
 }
 
