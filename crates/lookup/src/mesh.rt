@@ -394,8 +394,8 @@ impl Peak {
         ensures { λ r. ⌜ (r ≡ self) ⊎ ((r .best ≡ At h t) × (r .weights ≡ w)) ⌝ }
     {
         let best = self.best;
-        if let Best::At(g, k) = best {
-            if h <= g {
+        if let Best::At(held, k) = best {
+            if h <= held {
                 return self;
             }
         }
