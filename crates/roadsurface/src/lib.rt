@@ -292,7 +292,15 @@ pub extern "C" fn rs_top(
     }
     let points = [x, y];
     let mut words = [0u32; 8];
-    let a = tops(vertices, normals, indices, spans, index, &points, &mut words);
+    let a = tops(
+        vertices,
+        normals,
+        indices,
+        spans,
+        index,
+        &points,
+        &mut words,
+    );
     tell_record(answer, a, &words)
 }
 
