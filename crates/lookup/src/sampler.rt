@@ -13,7 +13,7 @@ ghost use Rattle.lookup.specs.Sampler.{EndsRise, pastOf, laneOf, topFaul
 ghost use Rattle.lookup.specs.Consult.{entryFault};
 ghost use Rattle.lookup.specs.Mesh.{triangles};
 ghost use Rattle.lookup.specs.Sixteen.{Small, Poised};
-ghost use Rattle.lookup.specs.Steps.{Ready, Halved, AtMostForeign};
+ghost use Rattle.lookup.specs.Steps.{Ready, Halved, AtMostForeign, Singles};
 ghost use Rattle.lookup.specs.Batch.{wordFor, laneThere, laneId, recordOf, cutRecord, recordAt, recordsOf, topsOf, readSampling};
 use crate::grid::Consulted;
 use crate::grid::Front;
@@ -592,7 +592,7 @@ fn lane_by(there: u32, id: u32) -> Lane
 // The answer that a record tells of. A cell that is refused is that of a foreign index.
 fn told_by(words: &[u32]) -> Sampled
     requires { ⌜ length (now words) ≡ 8 ⌝ }
-    ensures { λ r. ⌜ ((a : Answer Sample) → now (words .entry) ≡ recordOf a → AtMostForeign a → readSampled r ≡ a) ⌝ }
+    ensures { λ r. ⌜ ((a : Answer Sample) → now (words .entry) ≡ recordOf a → AtMostForeign a → Singles a → readSampled r ≡ a) ⌝ }
 {
     if words[0] == 0 {
         return Sampled::None;
