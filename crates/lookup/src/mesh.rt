@@ -41,6 +41,12 @@ pub enum Best {
     Nothing,
 }
 
+// The same with the weights of its corners at the point.
+pub struct Peak {
+    pub best: Best,
+    pub weights: Weights,
+}
+
 // What the plain lookup answers: height, normal and triangle, or none, or why the call is turned back.
 pub enum Answer {
     Found(f32, Vector, usize),
@@ -215,6 +221,40 @@ impl Best {
     }
 }
 
+impl Peak {
+    // The peak after triangle t of height h, whose corners weigh w.
+    fn higher(self, h: f32, t: usize, w: Weights) -> Peak
+        ensures { λ r. ⌜ r .best ≡ higherOf (self .best) h t ⌝ }
+        ensures { λ r. ⌜ (r ≡ self) ⊎ ((r .best ≡ At h t) × (r .weights ≡ w)) ⌝ }
+    {
+        let best = self.best;
+        if let Best::At(held, k) = best {
+            if h <= held {
+                return self;
+            }
+        }
+        Peak {
+            best: Best::At(h, t),
+            weights: w,
+        }
+    }
+}
+
+// No triangle yet.
+fn no_peak() -> Peak
+    ensures { λ r. ⌜ r .best ≡ Nothing ⌝ }
+{
+    Peak {
+        best: Best::Nothing,
+        weights: Weights {
+            det: 0.0,
+            a: 0.0,
+            b: 0.0,
+            c: 0.0,
+        },
+    }
+}
+
 // ---- normals
 
 // The normal of vertex i: up where the normals do not reach so far.
@@ -305,21 +345,6 @@ pub struct Hit {
     pub whole: bool,
 }
 
-// No triangle yet.
-fn no_peak() -> Peak
-    ensures { λ r. ⌜ r .best ≡ Nothing ⌝ }
-{
-    Peak {
-        best: Best::Nothing,
-        weights: Weights {
-            det: 0.0,
-            a: 0.0,
-            b: 0.0,
-            c: 0.0,
-        },
-    }
-}
-
 // Place k of a row of points on the ground, two numbers each.
 fn ground_at(xs: &[f32], k: usize) -> Point
     requires { ⌜ 2 * k + 1 < length (now xs) ⌝ }
@@ -378,31 +403,6 @@ fn weigh_all(a: &[f32], b: &[f32], c: &[f32], n: usize, x: f32, y: f32, low: &mu
         let w = weigh(ground_at(a, k), ground_at(b, k), ground_at(c, k), x, y);
         low[k] = w.least();
         k += 1;
-    }
-}
-
-// The highest triangle so far, and the weights of its corners at the point.
-pub struct Peak {
-    pub best: Best,
-    pub weights: Weights,
-}
-
-impl Peak {
-    // The peak after triangle t of height h, whose corners weigh w.
-    fn higher(self, h: f32, t: usize, w: Weights) -> Peak
-        ensures { λ r. ⌜ r .best ≡ higherOf (self .best) h t ⌝ }
-        ensures { λ r. ⌜ (r ≡ self) ⊎ ((r .best ≡ At h t) × (r .weights ≡ w)) ⌝ }
-    {
-        let best = self.best;
-        if let Best::At(held, k) = best {
-            if h <= held {
-                return self;
-            }
-        }
-        Peak {
-            best: Best::At(h, t),
-            weights: w,
-        }
     }
 }
 
