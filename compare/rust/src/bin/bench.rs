@@ -70,10 +70,13 @@ fn lookups(b: &Bench) {
         let w = index_of(&l);
         let q = road_queries(&m, 20_000);
         let spans = m.lanes.len();
+        let mut answer = [0; 8];
         b.pair(
             &format!("indexed lookup, 1 point to a call, {n} triangles, {spans} spans"), q.len(), 0.7,
             || q.iter().for_each(|&(x, y)| { black_box(black_box(&s).top_lane(black_box(x), black_box(y))); }),
-            || q.iter().for_each(|&(x, y)| { let _ = black_box(ours::top(black_box(&l), black_box(&w), black_box(x), black_box(y))); }),
+            || q.iter().for_each(|&(x, y)| {
+                let _ = black_box(ours::top_into(black_box(&l), black_box(&w), black_box(x), black_box(y), black_box(&mut answer)));
+            }),
         );
         // the wheels of one cab, and of forty
         let points: Vec<f32> = q.iter().flat_map(|&(x, y)| [x, y]).collect();
