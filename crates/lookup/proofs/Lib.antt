@@ -16,3 +16,4 @@ pub mod Tallies
 pub mod Sixteens
 pub mod Answers
 pub mod Fronts
+pub mod OnePoint

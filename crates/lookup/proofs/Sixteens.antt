@@ -1,6 +1,6 @@
 -- The steps by which `highest_in` goes through a run, sixteen triangles at a time, and what `locate` says of it. Assumes nothing.
 use mathlib.Core.Path.{_≡_, refl, sym, ap, _∙_, subst}
-use mathlib.Core.Logic.{⊎-elim}
+use mathlib.Core.Logic.{_⊎_, ⊎-elim}
 use mathlib.Core.Bool.{Bool, true, false, _&&_}
 use mathlib.Core.List.{List}
 use Prim.Native.Nat.{ℕ, zero, suc, _+_, _-_, _*_, _≤_, _<_}
@@ -21,12 +21,15 @@ use Rattle.lookup.specs.declared.grid.Consulted.{Consulted}
 use Rattle.lookup.specs.declared.grid.Consulted.the-variants.{Run, Nowhere, Refused}
 use Rattle.lookup.specs.declared.mesh.Fetch.the-variants.{Corners, Missing}
 use Rattle.lookup.specs.declared.mesh.Best.{Best}
+use Rattle.lookup.specs.declared.mesh.Best.the-variants.{At, Nothing}
+use Rattle.lookup.specs.declared.mesh.Weights.{Weights}
+use Rattle.lookup.specs.declared.mesh.Peak.{Peak}
 use Rattle.lookup.specs.Mesh.{present, cornersOf, cornerOf, triangles}
 use Rattle.lookup.specs.Cover.{slack, covers, heightOf, weightsOf, weightsAt, detOf, overA, weightA, weightB, insideOf, liftOf}
 use Rattle.lookup.specs.Plain.{scanOf, higherOf, entryOf}
 use Rattle.lookup.specs.Consult.{entryFault, wordAt, Place, nowhere}
 use Rattle.lookup.specs.Steps.{Runs, Started}
-use Rattle.lookup.specs.Sixteen.{turnOf, groundAt, Over, Grounded, Held, AllHeld, Low, AllLow, Passing, AllThere, Weighed, HitOf}
+use Rattle.lookup.specs.Sixteen.{turnOf, groundAt, Over, Grounded, Held, AllHeld, Low, AllLow, Passing, AllThere, Weighed, Weighs, Poised, HitOf}
 use Rattle.lookup.specs.Laws.Heads.{entry-none, entry-step}
 use Rattle.lookup.specs.Laws.Plain.{present-below}
 use Rattle.lookup.proofs.Turns.{there, missing, weights-are}
@@ -129,6 +132,24 @@ module _ (vs : List Float) (is : List ℕ) (x y : Float) (best : Best) (t : ℕ)
   pub turn-next : (seq : ℕ → ℕ) (i j : ℕ) → best ≡ scanOf vs is x y seq i → t ≡ seq i → j ≡ suc i → turnOf vs is x y best t ≡ scanOf vs is x y seq j
   unfolding turnOf scanOf
   turn-next seq i j e s n = rw (n, ← s, e)
+
+-- ---- the weights of the best
+
+module _ (vs : List Float) (is : List ℕ) (x y : Float) where
+  pub poised-none : {p : Peak} → p .best ≡ Nothing → Poised vs is x y p
+  poised-none e h t a = absurd (let z : _≡_ {A = ℕ} 0 1 = cc in omega arith)
+
+  pub poised-next : {p r : Peak} {h : Float} {t : ℕ} {w : Weights} → Poised vs is x y p → Weighs vs is x y t w
+      → (r ≡ p) ⊎ ((r .best ≡ At h t) × (r .weights ≡ w)) → Poised vs is x y r
+  poised-next {p} {r} {h} {t} {w} old new =
+      ⊎-elim (λ (e : r ≡ p). subst (Poised vs is x y) (sym e) old)
+      (λ (e : (r .best ≡ At h t) × (r .weights ≡ w)) g u a. let z : t ≡ u = at-same (sym (e .0) ∙ a) in subst (λ (u : ℕ). Weighs vs is x y u (r .weights)) z (subst (Weighs vs is x y t) (sym (e .1)) new))
+    where
+      at-same : {g k : Float} {i j : ℕ} → At g i ≡ At k j → i ≡ j
+      at-same e = cc
+
+  pub weighs : {t : ℕ} {a b c : Point} {w : Weights} → Corners a b c ≡ cornersOf vs is t → w ≡ weightsOf a b c x y → Weighs vs is x y t w
+  weighs {t} f e = record { there = there vs is t f .0; same = e ∙ weights-are vs is t x y f }
 
 pub pass-next : (vs : List Float) (is : List ℕ) (x y : Float) (best : Best) (seq : ℕ → ℕ) (i j : ℕ)
     → best ≡ scanOf vs is x y seq i → covers vs is (seq i) x y ≡ false → j ≡ suc i → best ≡ scanOf vs is x y seq j

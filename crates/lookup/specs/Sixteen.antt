@@ -11,7 +11,9 @@ use Rattle.vector.specs.declared.coords.Point.{Point}
 use Rattle.lookup.specs.declared.mesh.Best.{Best}
 use Rattle.lookup.specs.declared.mesh.Best.the-variants.{At, Nothing}
 use Rattle.lookup.specs.Mesh.{present, cornerOf}
-use Rattle.lookup.specs.Cover.{slack, weightsOf, insideOf, covers, heightOf}
+use Rattle.lookup.specs.declared.mesh.Weights.{Weights}
+use Rattle.lookup.specs.declared.mesh.Peak.{Peak}
+use Rattle.lookup.specs.Cover.{slack, weightsOf, weightsAt, insideOf, covers, heightOf}
 use Rattle.lookup.specs.Plain.{higherOf, scanOf, entryOf}
 
 -- the best after triangle t
@@ -69,6 +71,15 @@ AllThere vs is run from n = (k : ℕ) → k < n → present vs is (entryOf run (
 pub record Weighed (vs : List Float) (is : List ℕ) (x y : Float) (run : List ℕ) (from n : ℕ) (low : List Float) (whole : Bool) : Type 0 where
   pub passing : Passing vs is x y run from n low
   pub there : whole ≡ true → AllThere vs is run from n
+
+-- triangle t is there, and w are the weights of its corners at the point
+pub record Weighs (vs : List Float) (is : List ℕ) (x y : Float) (t : ℕ) (w : Weights) : Type 0 where
+  pub there : present vs is t ≡ true
+  pub same : w ≡ weightsAt vs is t x y
+
+-- the weights are those of the best, if there is one
+abbrev pub Poised : List Float → List ℕ → Float → Float → Peak → Type 0
+Poised vs is x y p = (h : Float) (t : ℕ) → p .best ≡ At h t → Weighs vs is x y t (p .weights)
 
 -- the best of the first n triangles of a run, and whether all of them are there
 pub record HitOf (vs : List Float) (is : List ℕ) (x y : Float) (run : List ℕ) (n : ℕ) (best : Best) (whole : Bool) : Type 0 where

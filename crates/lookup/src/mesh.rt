@@ -10,7 +10,8 @@ ghost use Rattle.shape.specs.Lists.{pointAt, meshLists};
 ghost use Rattle.lookup.specs.Mesh.{cornersOf, normalAt, triangles};
 ghost use Rattle.lookup.specs.Cover.{slack, detOf, overA, weightA, weightB, weightsOf, insideOf, liftOf, faceUp, smoothOf, blendOf, flatOf, normalOf};
 ghost use Rattle.lookup.specs.Plain.{higherOf, scanOf, entryOf, readAnswer, answerOf};
-ghost use Rattle.lookup.specs.Sixteen.{turnOf, groundAt, Grounded, AllHeld, AllLow, Passing, NoneLow, Weighed, HitOf};
+ghost use Rattle.lookup.specs.Sixteen.{turnOf, groundAt, Grounded, AllHeld, AllLow, Passing, NoneLow, Weighed, Weighs, Poised, HitOf};
+ghost use Rattle.lookup.specs.declared.mesh.Best.the-variants.{At, Nothing};
 use rounding::extremes::abs32;
 use shape::lists::mesh_fault;
 use shape::lists::vector_at;
@@ -38,6 +39,12 @@ pub struct Weights {
 pub enum Best {
     At(f32, usize),
     Nothing,
+}
+
+// The same with the weights of its corners at the point.
+pub struct Peak {
+    pub best: Best,
+    pub weights: Weights,
 }
 
 // What the plain lookup answers: height, normal and triangle, or none, or why the call is turned back.
@@ -214,6 +221,40 @@ impl Best {
     }
 }
 
+impl Peak {
+    // The peak after triangle t of height h, whose corners weigh w.
+    fn higher(self, h: f32, t: usize, w: Weights) -> Peak
+        ensures { λ r. ⌜ r .best ≡ higherOf (self .best) h t ⌝ }
+        ensures { λ r. ⌜ (r ≡ self) ⊎ ((r .best ≡ At h t) × (r .weights ≡ w)) ⌝ }
+    {
+        let best = self.best;
+        if let Best::At(held, k) = best {
+            if h <= held {
+                return self;
+            }
+        }
+        Peak {
+            best: Best::At(h, t),
+            weights: w,
+        }
+    }
+}
+
+// No triangle yet.
+fn no_peak() -> Peak
+    ensures { λ r. ⌜ r .best ≡ Nothing ⌝ }
+{
+    Peak {
+        best: Best::Nothing,
+        weights: Weights {
+            det: 0.0,
+            a: 0.0,
+            b: 0.0,
+            c: 0.0,
+        },
+    }
+}
+
 // ---- normals
 
 // The normal of vertex i: up where the normals do not reach so far.
@@ -277,11 +318,30 @@ pub fn normal_of(
     face_up(blend(normals, indices, t, weigh(a, b, c, x, y)))
 }
 
+// The same where w are the weights of the triangle's corners at (x, y), and it is there.
+pub fn normal_by(
+    vertices: &[f32],
+    normals: &[f32],
+    indices: &[u32],
+    t: usize,
+    x: f32,
+    y: f32,
+    w: Weights,
+) -> Vector
+    requires { ⌜ Weighs (now vertices) (now indices) x y t w ⌝ }
+    ensures { λ r. ⌜ r ≡ normalOf (now (vertices .entry)) (now (normals .entry)) (now (indices .entry)) t x y ⌝ }
+{
+    if vertices.len() / 3 < normals.len() / 3 {
+        return normal_of(vertices, normals, indices, t, x, y);
+    }
+    face_up(blend(normals, indices, t, w))
+}
+
 // ---- the scan of a run, by sixteens
 
-// The best of a run, and whether no triangle of it is missing.
+// The peak of a run, and whether no triangle of it is missing.
 pub struct Hit {
-    pub best: Best,
+    pub peak: Peak,
     pub whole: bool,
 }
 
@@ -346,21 +406,23 @@ fn weigh_all(a: &[f32], b: &[f32], c: &[f32], n: usize, x: f32, y: f32, low: &mu
     }
 }
 
-// The best after triangle t.
-fn turn(vertices: &[f32], indices: &[u32], t: usize, x: f32, y: f32, best: Best) -> Best
-    ensures { λ r. ⌜ r ≡ turnOf (now (vertices .entry)) (now (indices .entry)) x y best t ⌝ }
+// The peak after triangle t.
+fn turn(vertices: &[f32], indices: &[u32], t: usize, x: f32, y: f32, before: Peak) -> Peak
+    requires { ⌜ Poised (now vertices) (now indices) x y before ⌝ }
+    ensures { λ r. ⌜ r .best ≡ turnOf (now (vertices .entry)) (now (indices .entry)) x y (before .best) t ⌝ }
+    ensures { λ r. ⌜ Poised (now (vertices .entry)) (now (indices .entry)) x y r ⌝ }
 {
     let Fetch::Corners(a, b, c) = corners(vertices, indices, t) else {
-        return best;
+        return before;
     };
     let w = weigh(a, b, c, x, y);
     if w.inside() {
-        return best.higher(w.height(a, b, c), t);
+        return before.higher(w.height(a, b, c), t, w);
     }
-    best
+    before
 }
 
-// The best after n more triangles of a run, of which those with too low a least weight are passed over.
+// The peak after n more triangles of a run, of which those with too low a least weight are passed over.
 fn low_turns(
     vertices: &[f32],
     indices: &[u32],
@@ -370,21 +432,23 @@ fn low_turns(
     low: &[f32],
     x: f32,
     y: f32,
-    before: Best,
-) -> Best
+    before: Peak,
+) -> Peak
     requires { ⌜ (from + n ≤ length (now run)) × (n ≤ length (now low)) ⌝ }
     requires { ⌜ Passing (now vertices) (now indices) x y (now run) from n (now low) ⌝ }
-    requires { ⌜ before ≡ scanOf (now vertices) (now indices) x y (entryOf (now run)) from ⌝ }
-    ensures { λ r. ⌜ r ≡ scanOf (now (vertices .entry)) (now (indices .entry)) x y (entryOf (now (run .entry))) (from + n) ⌝ }
+    requires { ⌜ before .best ≡ scanOf (now vertices) (now indices) x y (entryOf (now run)) from ⌝ }
+    requires { ⌜ Poised (now vertices) (now indices) x y before ⌝ }
+    ensures { λ r. ⌜ r .best ≡ scanOf (now (vertices .entry)) (now (indices .entry)) x y (entryOf (now (run .entry))) (from + n) ⌝ }
+    ensures { λ r. ⌜ Poised (now (vertices .entry)) (now (indices .entry)) x y r ⌝ }
 {
-    let mut best = before;
+    let mut peak = before;
     for k in 0..n {
         if low[k] < -1e-4 {
             continue;
         }
-        best = turn(vertices, indices, wide(run[from + k]), x, y, best);
+        peak = turn(vertices, indices, wide(run[from + k]), x, y, peak);
     }
-    best
+    peak
 }
 
 // The next multiple of 4: the fours then leave no rest.
@@ -453,7 +517,7 @@ fn both(p: bool, q: bool) -> bool
     false
 }
 
-// The best of the triangles that a run of triangle numbers names, in its order. Nearly all go by their least
+// The peak of the triangles that a run of triangle numbers names, in its order. Nearly all go by their least
 // weight: it is worked out for sixteen at a time, first the corners and then the weights, in the room lent.
 pub fn highest_in(
     vertices: &[f32],
@@ -467,20 +531,21 @@ pub fn highest_in(
     low: &mut [f32],
 ) -> Hit
     requires { ⌜ (32 ≤ length (now a)) × (32 ≤ length (now b)) × (32 ≤ length (now c)) × (16 ≤ length (now low)) ⌝ }
-    ensures { λ r. ⌜ HitOf (now (vertices .entry)) (now (indices .entry)) x y (now (run .entry)) (length (now (run .entry))) (r .best) (r .whole) ⌝ }
+    ensures { λ r. ⌜ HitOf (now (vertices .entry)) (now (indices .entry)) x y (now (run .entry)) (length (now (run .entry))) (r .peak .best) (r .whole) ⌝ }
+    ensures { λ r. ⌜ Poised (now (vertices .entry)) (now (indices .entry)) x y (r .peak) ⌝ }
 {
-    let mut best = Best::Nothing;
+    let mut peak = no_peak();
     let mut whole = true;
     let mut i: usize = 0;
     while i < run.len() {
         let n = few_of(run.len() - i);
         let there = weigh_part(vertices, indices, run, i, n, x, y, a, b, c, low);
         whole = both(whole, there);
-        best = low_turns(vertices, indices, run, i, n, low, x, y, best);
+        peak = low_turns(vertices, indices, run, i, n, low, x, y, peak);
         i += n;
     }
     Hit {
-        best: best,
+        peak: peak,
         whole: whole,
     }
 }

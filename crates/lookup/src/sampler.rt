@@ -6,15 +6,15 @@ ghost use Prim.Native.Nat.{ℕ, _+_, _-_, _*_, _/_, _<_, _≤_};
 ghost use lib.Dec.{eqb};
 ghost use lib.ListN.{length};
 ghost use Rattle.shape.specs.Gather.{any, gather};
-ghost use Rattle.shape.specs.Refusal.{fine, taken, found, numberOf, placeOf, leaves};
+ghost use Rattle.shape.specs.Refusal.{Answer, fine, taken, found, numberOf, placeOf, leaves};
 ghost use Rattle.shape.specs.Lists.{runBad, meshFault, meshLists};
 ghost use Rattle.shape.specs.Memory.{Put};
-ghost use Rattle.lookup.specs.Sampler.{EndsRise, pastOf, laneOf, topFault, readSampled, sampleOf, topOf};
+ghost use Rattle.lookup.specs.Sampler.{EndsRise, pastOf, laneOf, topFault, Sample, readSampled, sampleOf, topOf};
 ghost use Rattle.lookup.specs.Consult.{entryFault};
 ghost use Rattle.lookup.specs.Mesh.{triangles};
-ghost use Rattle.lookup.specs.Sixteen.{Small};
-ghost use Rattle.lookup.specs.Steps.{Ready};
-ghost use Rattle.lookup.specs.Batch.{wordFor, laneThere, laneId, cutRecord, recordAt, recordsOf, topsOf, readSampling};
+ghost use Rattle.lookup.specs.Sixteen.{Small, Poised};
+ghost use Rattle.lookup.specs.Steps.{Ready, Halved, AtMostForeign, Singles};
+ghost use Rattle.lookup.specs.Batch.{wordFor, laneThere, laneId, recordOf, cutRecord, recordAt, recordsOf, topsOf, readSampling};
 use crate::grid::Consulted;
 use crate::grid::Front;
 use crate::grid::Opened;
@@ -23,9 +23,11 @@ use crate::grid::entry_fault;
 use crate::grid::locate;
 use crate::grid::open;
 use crate::mesh::Best;
+use crate::mesh::Peak;
 use crate::mesh::highest_in;
-use crate::mesh::normal_of;
+use crate::mesh::normal_by;
 use rounding::bits::bits32;
+use rounding::bits::from_bits32;
 use shape::lists::mesh_fault;
 use shape::lists::record_word;
 use shape::refusal::Check;
@@ -46,24 +48,61 @@ pub enum Sampled {
     Refused(Refusal),
 }
 
-// The first of n spans whose run of indices ends past i, or n. The ends rise, so it is found by halving.
-fn span_past(spans: &[u32], i: usize, n: usize) -> usize
-    requires { ⌜ n ≤ 1024 ⌝ }
-    requires { ⌜ EndsRise (now spans) n ⌝ }
-    ensures { λ r. ⌜ r ≡ pastOf (now (spans .entry)) i n ⌝ }
+// A part of the spans: the first of them, and how many there are.
+struct Part {
+    low: usize,
+    size: usize,
+}
+
+// A place moved on where a run of indices ends by i. Which way it goes cannot be foreseen, so the choice is
+// no branch.
+fn moved(low: usize, by: usize, end: usize, i: usize) -> usize
+    requires { ⌜ (low ≤ 1024) × (by ≤ 1024) ⌝ }
+    ensures { λ r. ⌜ (end ≤ i → r ≡ low + by) × (i < end → r ≡ low) ⌝ }
 {
-    let mut low = 0;
-    let mut high = n;
-    while low < high {
-        let middle = (low + high) / 2;
-        let end = record_word(spans, 5, middle, 4);
-        if end <= i {
-            low = middle + 1;
-        } else {
-            high = middle;
-        }
+    if end <= i { low + by } else { low }
+}
+
+// The half of a part that leads to the first span whose run of indices ends past i.
+fn half_of(spans: &[u32], i: usize, p: Part) -> Part
+    requires { ⌜ length (now spans) ≤ 5120 ⌝ }
+    requires { ⌜ EndsRise (now spans) (length (now spans) / 5) ⌝ }
+    requires { ⌜ Halved (now spans) i (length (now spans) / 5) (p .low) (p .low + p .size) ⌝ }
+    ensures { λ r. ⌜ Halved (now (spans .entry)) i (length (now (spans .entry)) / 5) (r .low) (r .low + r .size) ⌝ }
+    ensures { λ r. ⌜ r .size ≡ (p .size + 1) / 2 ⌝ }
+{
+    if p.size < 2 {
+        return p;
     }
-    low
+    let half = p.size / 2;
+    let end = wide(spans[5 * (p.low + half) - 1]);
+    Part {
+        low: moved(p.low, half, end, i),
+        size: p.size - half,
+    }
+}
+
+// The first of the spans whose run of indices ends past i, or how many there are. The ends rise, so it is
+// found by halving. Ten halves of 1,024 spans leave one; in a loop the compiler would make branches of the
+// choices.
+fn span_past(spans: &[u32], i: usize) -> usize
+    requires { ⌜ length (now spans) ≤ 5120 ⌝ }
+    requires { ⌜ EndsRise (now spans) (length (now spans) / 5) ⌝ }
+    ensures { λ r. ⌜ r ≡ pastOf (now (spans .entry)) i (length (now (spans .entry)) / 5) ⌝ }
+{
+    let whole = Part {
+        low: 0,
+        size: spans.len() / 5,
+    };
+    let a = half_of(spans, i, half_of(spans, i, whole));
+    let b = half_of(spans, i, half_of(spans, i, a));
+    let c = half_of(spans, i, half_of(spans, i, b));
+    let d = half_of(spans, i, half_of(spans, i, c));
+    let e = half_of(spans, i, half_of(spans, i, d));
+    if e.size < 1 {
+        return e.low;
+    }
+    moved(e.low, 1, wide(spans[5 * e.low + 4]), i)
 }
 
 // The lane that triangle t belongs to.
@@ -75,7 +114,7 @@ fn lane_of(spans: &[u32], t: usize) -> Lane
 {
     let i = 3 * t;
     let n = spans.len() / 5;
-    let k = span_past(spans, i, n);
+    let k = span_past(spans, i);
     if k < n {
         let start = record_word(spans, 5, k, 3);
         if start <= i {
@@ -217,7 +256,7 @@ fn run_check(index: &[u32], count: usize, a: usize, e: usize, whole: bool) -> Ch
     entry_fault(index, count, a, e)
 }
 
-// The answer that the best gives: its height, normal, number and lane.
+// The answer that the peak gives: its height, normal, number and lane.
 fn told(
     vertices: &[f32],
     normals: &[f32],
@@ -225,15 +264,17 @@ fn told(
     spans: &[u32],
     x: f32,
     y: f32,
-    best: Best,
+    peak: Peak,
 ) -> Sampled
-    requires { ⌜ Small best × (length (now spans) ≤ 5120) × EndsRise (now spans) (length (now spans) / 5) ⌝ }
-    ensures { λ r. ⌜ readSampled r ≡ taken (sampleOf (meshLists (now (vertices .entry)) (now (normals .entry)) (now (indices .entry)) (now (spans .entry))) x y best) ⌝ }
+    requires { ⌜ Small (peak .best) × (length (now spans) ≤ 5120) × EndsRise (now spans) (length (now spans) / 5) ⌝ }
+    requires { ⌜ Poised (now vertices) (now indices) x y peak ⌝ }
+    ensures { λ r. ⌜ readSampled r ≡ taken (sampleOf (meshLists (now (vertices .entry)) (now (normals .entry)) (now (indices .entry)) (now (spans .entry))) x y (peak .best)) ⌝ }
 {
+    let best = peak.best;
     let Best::At(h, t) = best else {
         return Sampled::None;
     };
-    let normal = normal_of(vertices, normals, indices, t, x, y);
+    let normal = normal_by(vertices, normals, indices, t, x, y, peak.weights);
     Sampled::Found(h, normal, t, lane_of(spans, t))
 }
 
@@ -267,69 +308,9 @@ fn sample_in(
             if let Check::Faulty(r) = check {
                 return Sampled::Refused(r);
             }
-            let best = hit.best;
-            told(vertices, normals, indices, spans, x, y, best)
+            told(vertices, normals, indices, spans, x, y, hit.peak)
         }
     }
-}
-
-// The answer at (x, y) where the five lists are in order.
-fn sample(
-    vertices: &[f32],
-    normals: &[f32],
-    indices: &[u32],
-    spans: &[u32],
-    index: &[u32],
-    x: f32,
-    y: f32,
-) -> Sampled
-    requires { ⌜ topFault (meshLists (now vertices) (now normals) (now indices) (now spans)) (now index) ≡ fine ⌝ }
-    ensures { λ r. ⌜ readSampled r ≡ topOf (meshLists (now (vertices .entry)) (now (normals .entry)) (now (indices .entry)) (now (spans .entry))) (now (index .entry)) x y ⌝ }
-{
-    match open(index, indices.len() / 3) {
-        Opened::Foreign(r) => Sampled::Refused(r),
-        Opened::Empty => Sampled::None,
-        Opened::Open(h) => {
-            let mut a = [0f32; 32];
-            let mut b = [0f32; 32];
-            let mut c = [0f32; 32];
-            let mut low = [0f32; 16];
-            sample_in(
-                vertices,
-                normals,
-                indices,
-                spans,
-                index,
-                h,
-                x,
-                y,
-                &mut a,
-                &mut b,
-                &mut c,
-                &mut low,
-            )
-        }
-    }
-}
-
-// The highest of the point's candidates, of the lowest number among equals: its height, normal, number
-// and lane.
-pub fn top(
-    vertices: &[f32],
-    normals: &[f32],
-    indices: &[u32],
-    spans: &[u32],
-    index: &[u32],
-    x: f32,
-    y: f32,
-) -> Sampled
-    ensures { λ r. ⌜ readSampled r ≡ topOf (meshLists (now (vertices .entry)) (now (normals .entry)) (now (indices .entry)) (now (spans .entry))) (now (index .entry)) x y ⌝ }
-{
-    let check = top_fault(vertices, normals, indices, spans, index);
-    if let Check::Faulty(r) = check {
-        return Sampled::Refused(r);
-    }
-    sample(vertices, normals, indices, spans, index, x, y)
 }
 
 // ---- many points
@@ -594,4 +575,65 @@ pub fn tops(
     }
     put_points(vertices, normals, indices, spans, index, points, answers);
     Sampling::Count(n)
+}
+
+// ---- one point
+
+// The lane that a record tells of.
+fn lane_by(there: u32, id: u32) -> Lane
+    ensures { λ r. ⌜ ((l : Lane) → there ≡ laneThere l → id ≡ laneId l → r ≡ l) ⌝ }
+{
+    if there == 0 {
+        return Lane::None;
+    }
+    Lane::Id(wide(id))
+}
+
+// The answer that a record tells of. A cell that is refused is that of a foreign index.
+fn told_by(words: &[u32]) -> Sampled
+    requires { ⌜ length (now words) ≡ 8 ⌝ }
+    ensures { λ r. ⌜ ((a : Answer Sample) → now (words .entry) ≡ recordOf a → AtMostForeign a → Singles a → readSampled r ≡ a) ⌝ }
+{
+    if words[0] == 0 {
+        return Sampled::None;
+    }
+    if words[0] == 1 {
+        let normal = Vector {
+            x: from_bits32(words[2]),
+            y: from_bits32(words[3]),
+            z: from_bits32(words[4]),
+        };
+        let lane = lane_by(words[6], words[7]);
+        return Sampled::Found(from_bits32(words[1]), normal, wide(words[5]), lane);
+    }
+    Sampled::Refused(Refusal::ForeignIndex(wide(words[2])))
+}
+
+// The highest of the point's candidates, of the lowest number among equals: its height, normal, number
+// and lane. One point is asked as many are, so that the compiler makes one scan of the two.
+pub fn top(
+    vertices: &[f32],
+    normals: &[f32],
+    indices: &[u32],
+    spans: &[u32],
+    index: &[u32],
+    x: f32,
+    y: f32,
+) -> Sampled
+    ensures { λ r. ⌜ readSampled r ≡ topOf (meshLists (now (vertices .entry)) (now (normals .entry)) (now (indices .entry)) (now (spans .entry))) (now (index .entry)) x y ⌝ }
+{
+    let points = [x, y];
+    let mut words = [0u32; 8];
+    match tops(
+        vertices,
+        normals,
+        indices,
+        spans,
+        index,
+        &points,
+        &mut words,
+    ) {
+        Sampling::Refused(r) => Sampled::Refused(r),
+        Sampling::Count(n) => told_by(&words),
+    }
 }

@@ -1,2 +1,3 @@
 -- The lemmas that the proofs of the functions cite.
 pub mod Telling
+pub mod Records

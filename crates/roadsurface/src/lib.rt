@@ -27,12 +27,11 @@ use crate::tell::tell_junction;
 use crate::tell::tell_lookup;
 use crate::tell::tell_mesh;
 use crate::tell::tell_outline;
-use crate::tell::tell_sampled;
+use crate::tell::tell_record;
 use crate::tell::tell_sampling;
 use crate::tell::tell_verdict;
 use lookup::grid::build;
 use lookup::mesh::height_at;
-use lookup::sampler::top;
 use lookup::sampler::tops;
 use shape::ears::ear_clip;
 use shape::elevation;
@@ -291,8 +290,18 @@ pub extern "C" fn rs_top(
     if answer.len() < 8 {
         return short(8);
     }
-    let a = top(vertices, normals, indices, spans, index, x, y);
-    tell_sampled(answer, a)
+    let points = [x, y];
+    let mut words = [0u32; 8];
+    let a = tops(
+        vertices,
+        normals,
+        indices,
+        spans,
+        index,
+        &points,
+        &mut words,
+    );
+    tell_record(answer, a, &words)
 }
 
 // The indexed lookup at many points, eight words a point: how many points.

@@ -1,10 +1,12 @@
 // How an answer is told across the border: a code is returned, and the values stand in the answer slice.
 ghost use mathlib.Core.Path.{_≡_};
-ghost use mathlib.Core.List.{[], _∷_, _++_};
-ghost use Prim.Native.Nat.{_<_, _≤_};
+ghost use mathlib.Core.List.{List, [], _∷_, _++_};
+ghost use Prim.Native.Nat.{ℕ, _<_, _≤_};
+ghost use lib.Ieee.{Float};
 ghost use lib.ListN.{length, drop, replicate};
 ghost use lib.Seq.{sets};
-ghost use Rattle.shape.specs.Refusal.{numberOf, placeOf};
+ghost use Rattle.shape.specs.Refusal.{leaves, numberOf, placeOf};
+ghost use Rattle.shape.specs.Lists.{Mesh};
 ghost use Rattle.shape.specs.Elevation.{answered};
 ghost use Rattle.shape.specs.Outline.{readOutline};
 ghost use Rattle.shape.specs.Ears.{readEars};
@@ -13,16 +15,13 @@ ghost use Rattle.shape.specs.SurfaceMesh.{readMesh};
 ghost use Rattle.shape.specs.Verdict.{readVerdict};
 ghost use Rattle.lookup.specs.Plain.{readAnswer};
 ghost use Rattle.lookup.specs.Index.{readBuilt};
-ghost use Rattle.lookup.specs.Sampler.{readSampled};
-ghost use Rattle.lookup.specs.Batch.{readSampling};
+ghost use Rattle.lookup.specs.Sampler.{topOf};
+ghost use Rattle.lookup.specs.Batch.{recordOf, recordsOf, topsOf, readSampling};
 ghost use Rattle.surface.specs.File.{readCopied};
 ghost use Rattle.roadsurface.specs.Answers.{codeFor, Told, bitOf, spotWords, outlineWords, countWords, meshWords, lookupWords, sampleWords, verdictWords};
 use lookup::grid::Built;
 use lookup::mesh::Answer;
-use lookup::sampler::Sampled;
 use lookup::sampler::Sampling;
-use lookup::sampler::lane_id;
-use lookup::sampler::lane_there;
 use lookup::sampler::number;
 use lookup::sampler::place;
 use lookup::sampler::word;
@@ -190,27 +189,38 @@ pub fn tell_built(answer: &mut [u64], a: Built) -> u64
     }
 }
 
-pub fn tell_sampled(answer: &mut [u64], a: Sampled) -> u64
-    requires { ⌜ 8 ≤ length (now answer) ⌝ }
-    ensures { λ r. ⌜ Told (readSampled a) sampleWords (now (answer .entry)) (now (answer .exit)) r ⌝ }
+// The eight words of a record at the front.
+fn put_record(answer: &mut [u64], words: &[u32])
+    requires { ⌜ (8 ≤ length (now answer)) × (length (now words) ≡ 8) ⌝ }
+    ensures { λ _. ⌜ now (answer .exit) ≡ now (words .entry) ++ drop 8 (now (answer .entry)) ⌝ }
+{
+    let mut i: usize = 0;
+    while i < 8 {
+        answer[i] = wide(words[i]);
+        i += 1;
+    }
+}
+
+// The record of a point, word by word, or why its cell is refused.
+fn tell_words(answer: &mut [u64], words: &[u32]) -> u64
+    requires { ⌜ (8 ≤ length (now answer)) × (length (now words) ≡ 8) ⌝ }
+    ensures { λ r. ⌜ ((m : Mesh) (ws : List ℕ) (x y : Float) → now (words .entry) ≡ recordOf (topOf m ws x y) → Told (topOf m ws x y) sampleWords (now (answer .entry)) (now (answer .exit)) r) ⌝ }
+{
+    if words[0] == 2 {
+        return wide(words[1]) * 0x1_0000_0000 + wide(words[2]);
+    }
+    put_record(answer, words);
+    0
+}
+
+// One point that the call for many was asked: `a` is its answer, and `words` held zeros.
+pub fn tell_record(answer: &mut [u64], a: Sampling, words: &[u32]) -> u64
+    requires { ⌜ (8 ≤ length (now answer)) × (length (now words) ≡ 8) ⌝ }
+    ensures { λ r. ⌜ ((m : Mesh) (ws : List ℕ) (x y : Float) → readSampling a ≡ topsOf m ws (x ∷ y ∷ []) 8 → now (words .entry) ≡ leaves (topsOf m ws (x ∷ y ∷ []) 8) (recordsOf m ws (x ∷ y ∷ [])) (replicate 8 0) → Told (topOf m ws x y) sampleWords (now (answer .entry)) (now (answer .exit)) r) ⌝ }
 {
     match a {
-        Sampled::Found(h, n, t, l) => {
-            answer[0] = 1;
-            answer[1] = wide(bits32(h));
-            answer[2] = wide(bits32(n.x));
-            answer[3] = wide(bits32(n.y));
-            answer[4] = wide(bits32(n.z));
-            answer[5] = t as u64;
-            answer[6] = wide(lane_there(l));
-            answer[7] = lane_id(l) as u64;
-            0
-        }
-        Sampled::None => {
-            clear(answer, 8);
-            0
-        }
-        Sampled::Refused(r) => code(r),
+        Sampling::Refused(r) => code(r),
+        Sampling::Count(n) => tell_words(answer, words),
     }
 }
 

@@ -69,19 +69,25 @@ fn lookups(b: &Bench) {
         let s = m.sampler();
         let w = index_of(&l);
         let q = road_queries(&m, 20_000);
-        let name = format!("indexed lookup, {n} triangles, {} spans", m.lanes.len());
+        let spans = m.lanes.len();
+        let mut answer = [0; 8];
         b.pair(
-            &name, q.len(), 0.7,
+            &format!("indexed lookup, 1 point to a call, {n} triangles, {spans} spans"), q.len(), 0.7,
             || q.iter().for_each(|&(x, y)| { black_box(black_box(&s).top_lane(black_box(x), black_box(y))); }),
-            || q.iter().for_each(|&(x, y)| { let _ = black_box(ours::top(black_box(&l), black_box(&w), black_box(x), black_box(y))); }),
+            || q.iter().for_each(|&(x, y)| {
+                let _ = black_box(ours::top_into(black_box(&l), black_box(&w), black_box(x), black_box(y), black_box(&mut answer)));
+            }),
         );
+        // the wheels of one cab, and of forty
         let points: Vec<f32> = q.iter().flat_map(|&(x, y)| [x, y]).collect();
-        let mut answers = vec![0; 8 * q.len()];
-        b.pair(
-            &format!("batch of 20,000 indexed lookups, {n} triangles"), q.len(), 0.7,
-            || q.iter().for_each(|&(x, y)| { black_box(black_box(&s).top_lane(black_box(x), black_box(y))); }),
-            || { let _ = black_box(ours::tops(black_box(&l), black_box(&w), black_box(&points), &mut answers)); },
-        );
+        for many in [4, 160] {
+            let mut answers = vec![0; 8 * many];
+            b.pair(
+                &format!("indexed lookup, {many} points to a call, {n} triangles, {spans} spans"), q.len(), 0.7,
+                || q.iter().for_each(|&(x, y)| { black_box(black_box(&s).top_lane(black_box(x), black_box(y))); }),
+                || points.chunks(2 * many).for_each(|p| { let _ = black_box(ours::tops(black_box(&l), black_box(&w), black_box(p), &mut answers)); }),
+            );
+        }
     }
     for n in [2_000, 20_000, 65_000] {
         let m = road_mesh(n);

@@ -238,8 +238,13 @@ pub fn build(m: &Lists, index: &mut [u32]) -> Result<usize, Refused> {
 
 pub fn top(m: &Lists, index: &[u32], x: f32, y: f32) -> Result<[u64; 8], Refused> {
     let mut a = [0u64; 8];
-    told(mesh!(rs_top, m, index.as_ptr(), index.len(), x, y, a.as_mut_ptr(), a.len()))?;
+    top_into(m, index, x, y, &mut a)?;
     Ok(a)
+}
+
+/// The same into a lent answer, as a program in C calls it.
+pub fn top_into(m: &Lists, index: &[u32], x: f32, y: f32, a: &mut [u64; 8]) -> Result<(), Refused> {
+    told(mesh!(rs_top, m, index.as_ptr(), index.len(), x, y, a.as_mut_ptr(), a.len()))
 }
 
 pub fn tops(m: &Lists, index: &[u32], points: &[f32], answers: &mut [u32]) -> Result<usize, Refused> {

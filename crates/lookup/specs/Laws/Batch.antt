@@ -3,13 +3,14 @@
 use Prim.Native.Nat.{ℕ, zero, suc, _+_, _-_, _*_, _/_, _≤_, _<_}
 use mathlib.Core.Path.{_≡_, refl, sym, _∙_}
 use mathlib.Core.Bool.{Bool, true, false, not, cond, _&&_}
-use mathlib.Core.List.{List}
+use mathlib.Core.List.{List, [], _∷_}
 use native.Mathlib.Omega.{arith}
 use lib.Dec.{ltb, leb, eqb}
 use lib.Ieee.{Float}
 use lib.ListN.{length, getD}
 use borrow.Author.Tests.{lt-ltb, ltb-false, ne-eqb, eqb-false}
-use Rattle.shape.specs.Lists.{Mesh, longer, wordOf, startOf}
+use Rattle.shape.specs.Gather.{gather}
+use Rattle.shape.specs.Lists.{Mesh, longer, uneven, wordOf, startOf}
 use Rattle.shape.specs.Refusal.{Fault, fine, fault, refuse, Answer, taken, refused, judge}
 use Rattle.lookup.specs.declared.mesh.Best.{Best}
 use Rattle.lookup.specs.declared.mesh.Best.the-variants.{At, Nothing}
@@ -19,7 +20,7 @@ use Rattle.lookup.specs.Mesh.{triangles}
 use Rattle.lookup.specs.Plain.{scanOf, entryOf}
 use Rattle.lookup.specs.Consult.{wordAt, sides, declares, headFault, inside, cellAt, startAt, firstAt, orElse, entryFault, startFault, Place, nowhere, runIn, runOf, consultOf}
 use Rattle.lookup.specs.Sampler.{pastOf, laneOf, meshLimits, topFault, sampleOf, sampleIn, onward, topOf}
-use Rattle.lookup.specs.Batch.{laneId, recordOf, wordFor, cutRecord}
+use Rattle.lookup.specs.Batch.{laneId, recordOf, recordAt, recordsOf, pointsFault, topsOf, wordFor, cutRecord}
 use Rattle.lookup.specs.Laws.Scan.{scan-found}
 use Rattle.lookup.specs.Laws.Plain.{covers-below}
 use Rattle.lookup.specs.Laws.Heads.{passed, head-sided, cell-small}
@@ -155,3 +156,15 @@ module _ (m : Mesh) (ws : List ℕ) (x y : Float) (f : topFault m ws ≡ fine) (
           → cutRecord (onward a (λ (p : Place). sampleIn m x y (runIn ws p))) ≡ recordOf (onward a (λ (p : Place). sampleIn m x y (runIn ws p)))
       go (taken p) h = best (runIn ws p) _ refl
       go (refused k p) h = rw (word-is p (h k p refl))
+
+-- ---- one point
+
+module _ (m : Mesh) (ws : List ℕ) (x y : Float) where
+  -- the call for many points, asked of one with room for its record
+  pub one-taken : topsOf m ws (x ∷ y ∷ []) 8 ≡ judge (topFault m ws) (taken 1)
+  unfolding topsOf pointsFault judge refuse uneven
+  one-taken = refl
+
+  pub one-record : recordsOf m ws (x ∷ y ∷ []) ≡ recordOf (topOf m ws x y)
+  unfolding recordsOf recordAt gather
+  one-record = refl

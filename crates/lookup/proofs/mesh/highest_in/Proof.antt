@@ -1,24 +1,27 @@
--- `lookup::mesh::highest_in` meets its contract. The loop's invariant: `best` is the best of the first i numbers of the run. Assumes nothing.
+-- `lookup::mesh::highest_in` meets its contract. The loop's invariant: `peak` is the peak of the first i numbers of the run. Assumes nothing.
 use Prim.Native.Nat.{ℕ, _≤_, _-_}
 use mathlib.Core.Path.{_≡_, refl, subst}
 use native.Mathlib.Omega.{arith}
 use lib.ListN.{length}
 use Rattle.lookup.specs.Plain.{scanOf}
-use Rattle.lookup.specs.Sixteen.{HitOf}
-use Rattle.lookup.proofs.Sixteens.{hit-step}
+use Rattle.lookup.specs.Sixteen.{Poised, HitOf}
+use Rattle.lookup.proofs.Sixteens.{hit-step, poised-none}
 use borrow.Author.Needs.{needs}
 use Rattle.lookup.proofs.mesh.highest_in.Statement.{statement}
 use Rattle.lookup.proofs.mesh.highest_in.Tie as tie
 
 abbrev Inv-loop : tie.InvT-loop
-Inv-loop vertices indices run x y a₀ b₀ c₀ low₀ best₀ whole₀ i₀ a b c low best whole i = (i ≤ length run) × (length a ≡ length a₀) × (length b ≡ length b₀) × (length c ≡ length c₀) × (length low ≡ length low₀) × HitOf vertices indices x y run i best whole
+Inv-loop vertices indices run x y a₀ b₀ c₀ low₀ peak₀ whole₀ i₀ a b c low peak whole i = (i ≤ length run) × (length a ≡ length a₀) × (length b ≡ length b₀) × (length c ≡ length c₀) × (length low ≡ length low₀) × HitOf vertices indices x y run i (peak .best) whole × Poised vertices indices x y peak
 
 abbrev μ-loop : tie.MeasureT-loop
-μ-loop vertices indices run x y a₀ b₀ c₀ low₀ best₀ whole₀ i₀ a b c low best whole i = length run - i
+μ-loop vertices indices run x y a₀ b₀ c₀ low₀ peak₀ whole₀ i₀ a b c low peak whole i = length run - i
+
+no-peak-requires : tie.Need-no-peak-requires Inv-loop μ-loop
+no-peak-requires c κs = search needs
 
 loop-holds : tie.Need-loop-holds Inv-loop μ-loop
 unfolding scanOf
-loop-holds c = (omega arith, refl, refl, refl, refl, record { found = refl; there = λ _ k l. absurd (omega arith) })
+loop-holds c = (omega arith, refl, refl, refl, refl, record { found = c .no-peak .ensures; there = λ _ k l. absurd (omega arith) }, poised-none _ _ _ _ (c .no-peak .ensures))
 
 sub-few-of : tie.Need-sub-few-of Inv-loop μ-loop
 sub-few-of c = search needs
@@ -30,7 +33,7 @@ weigh-part-requires : tie.Need-weigh-part-requires Inv-loop μ-loop
 weigh-part-requires c κs =
     let f = c .before .before .before .before .few-of .ensures in
     let l = c .before .before .before .before .before .before .loop in
-    let s = c .before .before .before .before .before .before .before .before .before .before .before .before .before .before in
+    let s = c .before .before .before .before .before .before .before .before .before .before .before .before .before .before .before in
     ((omega (arith, f, l .inv, c .before .before .before .before .before), f .2), (omega (arith, s .pre, l .inv), omega (arith, s .pre, l .inv), omega (arith, s .pre, l .inv), omega (arith, s .pre, l .inv)))
 
 both-requires : tie.Need-both-requires Inv-loop μ-loop
@@ -40,8 +43,8 @@ low-turns-requires : tie.Need-low-turns-requires Inv-loop μ-loop
 low-turns-requires c κs =
     let f = c .before .before .before .before .before .before .before .before .before .before .before .before .before .before .before .few-of .ensures in
     let l = c .before .before .before .before .before .before .before .before .before .before .before .before .before .before .before .before .before .loop in
-    let s = c .before .before .before .before .before .before .before .before .before .before .before .before .before .before .before .before .before .before .before .before .before .before .before .before .before in
-    ((omega (arith, f, l .inv, c .before .before .before .before .before .before .before .before .before .before .before .before .before .before .before .before), omega (arith, f, s .pre, l .inv, c .before .before)), (c .before .before .before .before .before .before .before .before .before .before .weigh-part .ensures .passing, l .inv .5 .found))
+    let s = c .before .before .before .before .before .before .before .before .before .before .before .before .before .before .before .before .before .before .before .before .before .before .before .before .before .before in
+    ((omega (arith, f, l .inv, c .before .before .before .before .before .before .before .before .before .before .before .before .before .before .before .before), omega (arith, f, s .pre, l .inv, c .before .before)), (c .before .before .before .before .before .before .before .before .before .before .weigh-part .ensures .passing, (l .inv .5 .found, l .inv .6)))
 
 add-i : tie.Need-add-i Inv-loop μ-loop
 add-i c = omega (arith, c .before .before .before .before .before .before .before .before .before .before .before .before .before .before .before .before .few-of .ensures, c .before .before .before .before .before .before .before .before .before .before .before .before .before .before .before .before .before)
@@ -57,7 +60,8 @@ loop-again c =
       search needs,
       search needs,
       search needs,
-      hit-step _ _ _ _ _ _ _ (l .inv .5) (c .before .before .before .before .before .before .before .before .before .before .before .weigh-part .ensures) (c .before .before .both .ensures) (c .low-turns .ensures),
+      hit-step _ _ _ _ _ _ _ (l .inv .5) (c .before .before .before .before .before .before .before .before .before .before .before .weigh-part .ensures) (c .before .before .both .ensures) (c .low-turns .ensures .0),
+      c .low-turns .ensures .1,
     )
 
 same-length : tie.Need-same-length Inv-loop μ-loop
@@ -75,9 +79,9 @@ same-length-4 c = search needs
 returns : tie.Need-returns Inv-loop μ-loop
 returns c =
     let l = c .before .loop in
-    let g = c .before .before .before .before .before .before .before .before .before .args in
+    let g = c .before .before .before .before .before .before .before .before .before .before .args in
     let e : l .i ≡ length (g .run .now) = omega arith in
-    subst (λ (n : ℕ). HitOf (g .vertices .now) (g .indices .now) (g .x) (g .y) (g .run .now) n (l .best) (l .whole)) e (l .inv .5)
+    (subst (λ (n : ℕ). HitOf (g .vertices .now) (g .indices .now) (g .x) (g .y) (g .run .now) n (l .peak .best) (l .whole)) e (l .inv .5), l .inv .6)
 
 pub highest-in-spec : {M : Type 1} → statement M
 highest-in-spec =
@@ -85,6 +89,7 @@ highest-in-spec =
     (tie.spec
     Inv-loop
     μ-loop
+    no-peak-requires
     loop-holds
     sub-few-of
     few-of-requires

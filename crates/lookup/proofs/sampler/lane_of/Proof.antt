@@ -8,7 +8,7 @@ mul-i : tie.Need-mul-i
 mul-i c = omega (arith, c .before .pre .0)
 
 span-past-requires : tie.Need-span-past-requires
-span-past-requires c κs = (omega (arith, c .before .pre .1 .0), c .before .pre .1 .1)
+span-past-requires c κs = (c .before .pre .1 .0, c .before .pre .1 .1)
 
 record-word-requires : tie.Need-record-word-requires
 record-word-requires c κs = (omega arith, omega (arith, c .before .before .before .pre .1 .0, c .if1 .taken), omega arith)

@@ -32,7 +32,7 @@ highest-in-requires : tie.Need-highest-in-requires
 highest-in-requires c κs = c .before .before .before .before .before .before .before .before .before .before .before .before .before .before .before .before .before .before .pre .1 .1
 
 run-check-requires : tie.Need-run-check-requires
-run-check-requires c κs = λ w r. run-sound _ _ _ _ _ _ (c .before .before .before .before .before .before .before .before .before .before .before .before .before .at .ensures) r (c .before .before .before .before .before .before .before .before .highest-in .ensures .there w)
+run-check-requires c κs = λ w r. run-sound _ _ _ _ _ _ (c .before .before .before .before .before .before .before .before .before .before .before .before .before .at .ensures) r (c .before .before .before .before .before .before .before .before .highest-in .ensures .0 .there w)
 
 enum-known-check : tie.Need-enum-known-check
 enum-known-check c = search needs
@@ -62,7 +62,7 @@ told-requires : tie.Need-told-requires
 told-requires c κs =
     let s = c .before .before .before .before .before .before .before .before .before .before .before .before .before .before .before .before .before .before .before .before .before .before .before .before .before .before .before .before .before .before in
     let o = ordered (M s) _ (s .args .x) (s .args .y) (s .pre .0) in
-    (small (M s) _ (s .args .x) (s .args .y) (s .pre .0) _ (c .before .before .before .before .before .before .before .before .before .before .before .before .before .before .before .before .at .ensures) _ (c .before .before .before .before .before .before .before .before .before .before .before .highest-in .ensures .found), o .spans, o .ends)
+    ((small (M s) _ (s .args .x) (s .args .y) (s .pre .0) _ (c .before .before .before .before .before .before .before .before .before .before .before .before .before .before .before .before .at .ensures) _ (c .before .before .before .before .before .before .before .before .before .before .before .highest-in .ensures .0 .found), o .spans, o .ends), c .before .before .before .before .before .before .before .before .before .before .before .highest-in .ensures .1)
 
 returns-2 : tie.Need-returns-2
 unfolding readSampled
@@ -91,7 +91,7 @@ same-length-8 c = search needs
 returns-4 : tie.Need-returns-4
 returns-4 c =
     let s = c .before .before .before .before .before .before .before .before .before .before .before .before .before .before .before .before .before .before .before .before .before .before .before .before .before .before .before .before .before .before .before in
-    c .told .ensures ∙ gives (M s) _ _ _ (s .pre .0) (run-is _ _ (c .before .before .before .before .before .before .before .before .before .before .before .before .before .before .before .before .before .before .before .before .before .locate .ensures _ (s .pre .1 .0 .sound)) (c .before .before .before .before .before .before .before .before .before .before .before .before .before .before .before .before .before .before .before .from .given .1) .sound (sound (c .before .enum-told2 .given .1) (c .before .before .before .run-check .ensures))) (c .before .before .before .before .before .before .before .before .before .before .before .before .before .before .before .before .before .at .ensures) (c .before .before .before .before .before .before .before .before .before .before .before .before .highest-in .ensures .found)
+    c .told .ensures ∙ gives (M s) _ _ _ (s .pre .0) (run-is _ _ (c .before .before .before .before .before .before .before .before .before .before .before .before .before .before .before .before .before .before .before .before .before .locate .ensures _ (s .pre .1 .0 .sound)) (c .before .before .before .before .before .before .before .before .before .before .before .before .before .before .before .before .before .before .before .from .given .1) .sound (sound (c .before .enum-told2 .given .1) (c .before .before .before .run-check .ensures))) (c .before .before .before .before .before .before .before .before .before .before .before .before .before .before .before .before .before .at .ensures) (c .before .before .before .before .before .before .before .before .before .before .before .before .highest-in .ensures .0 .found)
 
 pub sample-in-spec : {M : Type 1} → statement M
 sample-in-spec =

@@ -1,64 +1,107 @@
--- `lookup::sampler::span_past` meets its contract: each turn halves what is left. Assumes nothing.
-use Prim.Native.Nat.{_+_, _-_, _/_, _≤_, _<_}
+-- `lookup::sampler::span_past` meets its contract: ten halves leave at most one span. Assumes nothing.
+use Prim.Native.Nat.{_≤_}
 use native.Mathlib.Omega.{arith}
-use Rattle.shape.specs.Lists.{endOf}
-use Rattle.lookup.proofs.Search.{Halved, whole, upper, lower, ended}
+use borrow.Author.Needs.{needs}
+use Rattle.shape.specs.Lists.{wordOf}
+use Rattle.lookup.proofs.Search.{whole, ended, one-left, ten}
 use Rattle.lookup.proofs.sampler.span_past.Statement.{statement}
 use Rattle.lookup.proofs.sampler.span_past.Tie as tie
 
-abbrev Inv-loop : tie.InvT-loop
-Inv-loop spans i n low₀ high₀ low high = Halved spans i n low high
+abbrev S : tie.After-half-of10 → tie.Start
+S c = c .before .before .before .before .before .before .before .before .before .before .before
 
-abbrev μ-loop : tie.MeasureT-loop
-μ-loop spans i n low₀ high₀ low high = high - low
+few : (c : tie.After-half-of10) → c .half-of10 .result .size ≤ 1
+few c =
+    ten (omega (arith, S c .pre .0))
+    (c .before .before .before .before .before .before .before .before .before .half-of .ensures .1)
+    (c .before .before .before .before .before .before .before .before .half-of2 .ensures .1)
+    (c .before .before .before .before .before .before .before .half-of3 .ensures .1)
+    (c .before .before .before .before .before .before .half-of4 .ensures .1)
+    (c .before .before .before .before .before .half-of5 .ensures .1)
+    (c .before .before .before .before .half-of6 .ensures .1)
+    (c .before .before .before .half-of7 .ensures .1)
+    (c .before .before .half-of8 .ensures .1)
+    (c .before .half-of9 .ensures .1)
+    (c .half-of10 .ensures .1)
 
-loop-holds : tie.Need-loop-holds Inv-loop μ-loop
-loop-holds c = whole _ _ _
+half-of-requires : tie.Need-half-of-requires
+half-of-requires c κs = (c .before .pre .0, (c .before .pre .1, whole _ _ _))
 
-add-middle : tie.Need-add-middle Inv-loop μ-loop
-add-middle c = omega (arith, c .before .loop .inv .within, c .before .before .before .pre .0)
+half-of-requires-2 : tie.Need-half-of-requires-2
+half-of-requires-2 c κs = (c .before .before .pre .0, (c .before .before .pre .1, c .half-of .ensures .0))
 
-record-word-requires : tie.Need-record-word-requires Inv-loop μ-loop
-record-word-requires c κs = (omega arith, omega (arith, c .before .loop .inv .within, c .before .before .before .pre .0), omega arith)
+half-of-requires-3 : tie.Need-half-of-requires-3
+half-of-requires-3 c κs = (c .before .before .before .pre .0, (c .before .before .before .pre .1, c .half-of2 .ensures .0))
 
-add-low : tie.Need-add-low Inv-loop μ-loop
-add-low c = omega (arith, c .before .before .before .loop .inv .within, c .before .before .before .before .before .pre .0)
+half-of-requires-4 : tie.Need-half-of-requires-4
+half-of-requires-4 c κs = (c .before .before .before .before .pre .0, (c .before .before .before .before .pre .1, c .half-of3 .ensures .0))
 
-loop-less : tie.Need-loop-less Inv-loop μ-loop
-loop-less c = omega (arith, c .before .before .before .loop .inv .within)
+half-of-requires-5 : tie.Need-half-of-requires-5
+half-of-requires-5 c κs = (c .before .before .before .before .before .pre .0, (c .before .before .before .before .before .pre .1, c .half-of4 .ensures .0))
 
-loop-again : tie.Need-loop-again Inv-loop μ-loop
-loop-again c =
-    let s = c .before .before .before .before .before in
-    let l = c .before .before .before .loop in
-    let e : endOf 5 3 (s .args .spans .now) ((l .low + l .high) / 2) ≤ s .args .i = omega (arith, c .before .record-word .ensures .0, c .if1 .taken) in
-    upper (s .args .spans .now) (s .args .i) (s .args .n) (l .low) (l .high) ((l .low + l .high) / 2) (s .pre .1) (l .inv) (omega arith) e
+half-of-requires-6 : tie.Need-half-of-requires-6
+half-of-requires-6 c κs = (c .before .before .before .before .before .before .pre .0, (c .before .before .before .before .before .before .pre .1, c .half-of5 .ensures .0))
 
-loop-less-2 : tie.Need-loop-less-2 Inv-loop μ-loop
-loop-less-2 c = omega (arith, c .before .before .before .loop .inv .within)
+half-of-requires-7 : tie.Need-half-of-requires-7
+half-of-requires-7 c κs = (c .before .before .before .before .before .before .before .pre .0, (c .before .before .before .before .before .before .before .pre .1, c .half-of6 .ensures .0))
 
-loop-again-2 : tie.Need-loop-again-2 Inv-loop μ-loop
-loop-again-2 c =
-    let s = c .before .before .before .before .before in
-    let l = c .before .before .before .loop in
-    let e : s .args .i < endOf 5 3 (s .args .spans .now) ((l .low + l .high) / 2) = omega (arith, c .before .record-word .ensures .0, c .if1 .left) in
-    lower (s .args .spans .now) (s .args .i) (s .args .n) (l .low) (l .high) ((l .low + l .high) / 2) (l .inv) (omega arith) (omega arith) e
+half-of-requires-8 : tie.Need-half-of-requires-8
+half-of-requires-8 c κs = (c .before .before .before .before .before .before .before .before .pre .0, (c .before .before .before .before .before .before .before .before .pre .1, c .half-of7 .ensures .0))
 
-returns : tie.Need-returns Inv-loop μ-loop
-returns c = ended _ _ _ _ _ (c .before .loop .inv) (c .loop-test .left)
+half-of-requires-9 : tie.Need-half-of-requires-9
+half-of-requires-9 c κs = (c .before .before .before .before .before .before .before .before .before .pre .0, (c .before .before .before .before .before .before .before .before .before .pre .1, c .half-of8 .ensures .0))
+
+half-of-requires-10 : tie.Need-half-of-requires-10
+half-of-requires-10 c κs = (c .before .before .before .before .before .before .before .before .before .before .pre .0, (c .before .before .before .before .before .before .before .before .before .before .pre .1, c .half-of9 .ensures .0))
+
+returns : tie.Need-returns
+returns c = ended _ _ _ _ _ (c .before .before .half-of10 .ensures .0) (omega arith)
+
+mul-wide : tie.Need-mul-wide
+mul-wide c = omega (arith, S (c .before .before .before) .pre .0, c .before .before .before .half-of10 .ensures .0 .within)
+
+add-wide : tie.Need-add-wide
+add-wide c = omega (arith, S (c .before .before .before) .pre .0, c .before .before .before .half-of10 .ensures .0 .within)
+
+mul-wide-2 : tie.Need-mul-wide-2
+mul-wide-2 c = omega (arith, S (c .before .before .before) .pre .0, c .before .before .before .half-of10 .ensures .0 .within)
+
+shared-slice-read-wide : tie.Need-shared-slice-read-wide
+shared-slice-read-wide c = omega (arith, S (c .before .before .before .before) .pre .0, c .before .before .before .before .half-of10 .ensures .0 .within)
+
+wide-requires : tie.Need-wide-requires
+wide-requires c κs = search needs
+
+moved-requires : tie.Need-moved-requires
+moved-requires c κs = (omega (arith, S (c .before .before .before .before .before) .pre .0, c .before .before .before .before .before .half-of10 .ensures .0 .within), omega arith)
+
+returns-2 : tie.Need-returns-2
+unfolding wordOf
+returns-2 c =
+    let s = S (c .before .before .before .before .before .before) in
+    let p = c .before .before .before .before .before .before .half-of10 in
+    let f = few (c .before .before .before .before .before .before) in
+    one-left (s .args .spans .now) (s .args .i) _ (p .result .low) (p .result .size) (c .before .wide .result) (c .moved .result) (s .pre .1) (p .ensures .0) (omega (arith, f, c .before .before .before .before .if1 .left)) (c .before .wide .ensures) (c .moved .ensures)
 
 pub span-past-spec : {M : Type 1} → statement M
 span-past-spec =
     tie.close
     (tie.spec
-    Inv-loop
-    μ-loop
-    loop-holds
-    add-middle
-    record-word-requires
-    add-low
-    loop-less
-    loop-again
-    loop-less-2
-    loop-again-2
-    returns)
+    half-of-requires
+    half-of-requires-2
+    half-of-requires-3
+    half-of-requires-4
+    half-of-requires-5
+    half-of-requires-6
+    half-of-requires-7
+    half-of-requires-8
+    half-of-requires-9
+    half-of-requires-10
+    returns
+    mul-wide
+    add-wide
+    mul-wide-2
+    shared-slice-read-wide
+    wide-requires
+    moved-requires
+    returns-2)

@@ -16,18 +16,18 @@ returns : tie.Need-returns
 unfolding readSampled sampleOf
 returns c = rw (c .enum-told .given .1)
 
-normal-of-requires : tie.Need-normal-of-requires
-normal-of-requires c κs = search needs
+normal-by-requires : tie.Need-normal-by-requires
+normal-by-requires c κs = c .before .before .before .before .before .before .before .pre .1 _ _ (c .before .best .given .1)
 
 lane-of-requires : tie.Need-lane-of-requires
 unfolding Small
-lane-of-requires c κs = let p = c .before .before .before .before .before .before .before .before .pre in (subst Small (c .before .before .best .given .1) (p .0), (p .1, p .2))
+lane-of-requires c κs = let p = c .before .before .before .before .before .before .before .before .pre .0 in (subst Small (c .before .before .best .given .1) (p .0), (p .1, p .2))
 
 returns-2 : tie.Need-returns-2
 unfolding readSampled sampleOf
-returns-2 c = rw (c .lane-of .ensures, c .before .normal-of .ensures, c .before .before .before .best .given .1)
+returns-2 c = rw (c .lane-of .ensures, c .before .normal-by .ensures, c .before .before .before .best .given .1)
 
 pub told-spec : {M : Type 1} → statement M
 told-spec =
     tie.close
-    (tie.spec enum-known-best enum-told returns normal-of-requires lane-of-requires returns-2)
+    (tie.spec enum-known-best enum-told returns normal-by-requires lane-of-requires returns-2)

@@ -1,43 +1,58 @@
--- `lookup::sampler::top` meets its contract: the check turns the call back, or lets `sample` answer. Assumes nothing.
-use Prim.Native.Nat.{ℕ}
-use mathlib.Core.Path.{_≡_}
-use mathlib.Core.List.{List}
-use lib.Ieee.{Float}
-use Rattle.shape.specs.declared.refusal.Refusal.{Refusal}
-use Rattle.shape.specs.declared.refusal.Check.{Check}
-use Rattle.shape.specs.declared.refusal.Check.the-variants.{Faulty}
-use Rattle.shape.specs.Refusal.{found, judge}
+-- `lookup::sampler::top` meets its contract: the call for many points turns it back, or leaves its record to be read. Assumes nothing.
+use mathlib.Core.Path.{refl}
 use Rattle.shape.specs.Lists.{Mesh, meshLists}
-use Rattle.lookup.specs.declared.sampler.Sampled.the-variants.{Refused}
-use Rattle.lookup.specs.Sampler.{topFault, topOf, readSampled}
-use Rattle.lookup.proofs.Chain.{sound}
+use Rattle.lookup.specs.Batch.{readSampling}
+use Rattle.lookup.proofs.OnePoint.{turned-back, passed-on, record-left, foreign, singles}
 use borrow.Author.Needs.{needs}
 use Rattle.lookup.proofs.sampler.top.Statement.{statement}
 use Rattle.lookup.proofs.sampler.top.Tie as tie
 
-turned-back : (m : Mesh) (ws : List ℕ) (x y : Float) {k : Check} → found k ≡ topFault m ws → {r : Refusal} → k ≡ Faulty r → readSampled (Refused r) ≡ topOf m ws x y
-unfolding topOf judge readSampled found
-turned-back m ws x y e f = rw (← e, f)
+slice-aggregate-tops : tie.Need-slice-aggregate-tops
+slice-aggregate-tops c = search needs
 
-top-fault-requires : tie.Need-top-fault-requires
-top-fault-requires c κs = search needs
+slice-aggregate-tops-2 : tie.Need-slice-aggregate-tops-2
+slice-aggregate-tops-2 c = search needs
 
-enum-known-check : tie.Need-enum-known-check
-enum-known-check c = search needs
+tops-requires : tie.Need-tops-requires
+tops-requires c κs = search needs
+
+enum-known-r : tie.Need-enum-known-r
+enum-known-r c = search needs
+
+enum-known-n : tie.Need-enum-known-n
+enum-known-n c = search needs
+
+slice-aggregate-told-by : tie.Need-slice-aggregate-told-by
+slice-aggregate-told-by c = search needs
+
+told-by-requires : tie.Need-told-by-requires
+told-by-requires c κs = search needs
+
+-- the mesh
+abbrev M : tie.Start → Mesh
+M s = meshLists (s .args .vertices .now) (s .args .normals .now) (s .args .indices .now) (s .args .spans .now)
 
 returns : tie.Need-returns
-returns c = turned-back (meshLists (c .before .before .before .before .before .before .before .before .before .args .vertices .now) (c .before .before .before .before .before .before .before .before .before .args .normals .now) (c .before .before .before .before .before .before .before .before .before .args .indices .now) (c .before .before .before .before .before .before .before .before .before .args .spans .now)) _ _ _ (c .before .before .before .top-fault .ensures) (c .before .check .given .1)
-
-enum-told : tie.Need-enum-told
-enum-told c = search needs
-
-sample-requires : tie.Need-sample-requires
-sample-requires c κs = sound (c .enum-told .given .1) (c .before .before .top-fault .ensures)
+unfolding readSampling
+returns c = turned-back (M (c .before .before .before .before .before .before .before .before .before .before .before .before)) _ _ _ _ (rw (c .before .r .given .1) at (c .before .before .before .before .tops .ensures .0))
 
 returns-2 : tie.Need-returns-2
-returns-2 c = search needs
+unfolding readSampling
+returns-2 c =
+    let s = c .before .before .before .before .before .before .before .before .before .before .before .before .before .before in
+    let e = rw (c .before .before .before .n .given .1) at (c .before .before .before .before .before .before .tops .ensures .0) in
+    c .told-by .ensures _ (record-left (M s) _ _ _ _ refl e (c .before .before .before .before .before .before .tops .ensures .1)) (foreign (M s) _ _ _ (passed-on (M s) _ _ _ e)) (singles (M s) _ _ _)
 
 pub top-spec : {M : Type 1} → statement M
 top-spec =
     tie.close
-    (tie.spec top-fault-requires enum-known-check returns enum-told sample-requires returns-2)
+    (tie.spec
+    slice-aggregate-tops
+    slice-aggregate-tops-2
+    tops-requires
+    enum-known-r
+    enum-known-n
+    slice-aggregate-told-by
+    told-by-requires
+    returns
+    returns-2)
