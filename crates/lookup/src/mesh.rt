@@ -61,7 +61,7 @@ fn wide(i: u32) -> usize
 }
 
 // Vertex i, which is there.
-fn vertex(vertices: &[f32], i: usize) -> Point
+pub fn vertex(vertices: &[f32], i: usize) -> Point
     requires { ⌜ 3 * i + 2 < length (now vertices) ⌝ }
     ensures { λ r. ⌜ r ≡ pointAt (now (vertices .entry)) i ⌝ }
 {
