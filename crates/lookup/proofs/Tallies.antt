@@ -1,5 +1,5 @@
 -- One triangle more is tallied: whatever it is, and where all so far are plain. Assumes nothing.
-use mathlib.Core.Path.{_≡_, refl, sym, ap, _∙_, subst}
+use mathlib.Core.Path.{_≡_, refl, sym, _∙_, subst}
 use mathlib.Core.Bool.{Bool, true, false, not, cond}
 use mathlib.Core.List.{List}
 use Prim.Native.Nat.{ℕ, zero, suc, _+_, _≤_, _<_}
@@ -39,11 +39,11 @@ pub tally-next : (vs : List Float) (is : List ℕ) (t count o : ℕ) (extent b j
 unfolding boxesOf extentOf
 tally-next vs is t count o extent b j h e p q = record { counts = rw (add-one, p, e, h .counts); around = rw (add-one, q, e, h .around) }
 
-pub tally-first : (vs : List Float) (is : List ℕ) (b : Bounds) → boxOf vs is 0 ≡ Box b → Tallied vs is 1 1 (Box b)
+tally-first : (vs : List Float) (is : List ℕ) (b : Bounds) → boxOf vs is 0 ≡ Box b → Tallied vs is 1 1 (Box b)
 unfolding boxesOf extentOf joinOf oneOf
 tally-first vs is b e = record { counts = rw e; around = rw e }
 
-pub tally-box : (vs : List Float) (is : List ℕ) (t count : ℕ) (x g w : Bounds) → Tallied vs is t count (Box x) → boxOf vs is t ≡ Box g → w ≡ mergeOf x g → Tallied vs is (t + 1) (count + 1) (Box w)
+tally-box : (vs : List Float) (is : List ℕ) (t count : ℕ) (x g w : Bounds) → Tallied vs is t count (Box x) → boxOf vs is t ≡ Box g → w ≡ mergeOf x g → Tallied vs is (t + 1) (count + 1) (Box w)
 unfolding boxesOf extentOf joinOf oneOf
 tally-box vs is t count x g w h e j = record { counts = rw (add-one t, e, h .counts); around = rw (add-one t, e, ← h .around, j) }
 
@@ -139,9 +139,9 @@ module _ (vs : List Float) (is : List ℕ) (start : Bounds) (t : ℕ) (x : Bound
         tallied = λ _. tally-merged vs is start t x g w (h .none-yet) (h .tallied) z y (m .0);
         plain = one-more (PlainAt vs is) t (h .plain) (record { there = k .0; num-x = subst (λ (o : Point). IsNum (o .x)) (k .1) (q .1); num-y = subst (λ (o : Point). IsNum (o .y)) (k .1) (q .2) });
         narrow =
-          one-more (λ (k : ℕ). (o : Bounds) → boxOf vs is k ≡ Box o → Fits o r s) t
-          (λ k l o j. let d = h .narrow k l o j in record { wide = le-trans _ width r (d .wide) (lw .0); high = le-trans _ height s (d .high) (lh .0) })
-          (λ o j. subst (λ (o : Bounds). Fits o r s) (sym (box-inj g o (sym y ∙ j))) (record { wide = lw .1; high = lh .1 }));
+            one-more (λ (k : ℕ). (o : Bounds) → boxOf vs is k ≡ Box o → Fits o r s) t
+            (λ k l o j. let d = h .narrow k l o j in record { wide = le-trans _ width r (d .wide) (lw .0); high = le-trans _ height s (d .high) (lh .0) })
+            (λ o j. subst (λ (o : Bounds). Fits o r s) (sym (box-inj g o (sym y ∙ j))) (record { wide = lw .1; high = lh .1 }));
       }
 
 pub plain-all : (vs : List Float) (is : List ℕ) (start : Bounds) (t n : ℕ) (extent : Bounds) (width height : Float) → Plains vs is start t extent width height
