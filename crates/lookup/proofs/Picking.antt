@@ -1,6 +1,6 @@
 -- The box around corners, and around two boxes, by comparisons that are right where the first of two is a number. Assumes nothing.
 use mathlib.Core.Path.{_≡_, sym, ap, _∙_, subst}
-use mathlib.Core.Bool.{Bool, true, false, not, true≢false}
+use mathlib.Core.Bool.{Bool, true, false, true≢false}
 use mathlib.Core.List.{List}
 use Prim.Native.Nat.{ℕ}
 use lib.Ieee.{Float, nan, inf, fin, binary32, add, sub, lt, le, eq, ne, isNan}
@@ -77,18 +77,21 @@ module _ (pick : Float → Float → Float) (x y z p r : Float) (one : Picked pi
 
 -- ---- boxes
 
-pub boxed : (a b c : Point) (l₁ l₂ l₃ l₄ u₁ u₂ u₃ u₄ : Float)
-    → Picked minOf (a .x) (b .x) l₁ → Picked minOf l₁ (c .x) l₂ → Picked minOf (a .y) (b .y) l₃ → Picked minOf l₃ (c .y) l₄
-    → Picked maxOf (a .x) (b .x) u₁ → Picked maxOf u₁ (c .x) u₂ → Picked maxOf (a .y) (b .y) u₃ → Picked maxOf u₃ (c .y) u₄
-    → ne l₂ l₂ ≡ false → (let s = add binary32 (sub binary32 u₂ l₂) (sub binary32 u₄ l₄) in ne s s ≡ false)
-    → _≡_ {A = Bounds} (record { «min_x» = l₂; «max_x» = u₂; «min_y» = l₄; «max_y» = u₄ }) (aroundOf a b c)
-unfolding aroundOf
-boxed a b c l₁ l₂ l₃ l₄ u₁ u₂ u₃ u₄ A B C D E F G H e s =
-    let nx : IsNum (a .x) = three-back minOf (a .x) (b .x) (c .x) l₁ l₂ A B (num-of-same l₂ e) in
-    let d = sub binary32 u₄ l₄ in
-    let ns : IsNum d = add-num-right binary32 (sub binary32 u₂ l₂) d (num-of-same (add binary32 (sub binary32 u₂ l₂) d) s) in
-    let ny : IsNum (a .y) = three-back minOf (a .y) (b .y) (c .y) l₃ l₄ C D (sub-num-right binary32 u₄ l₄ ns) in
-    rw (three minOf (a .x) (b .x) (c .x) l₁ l₂ A B nx, three minOf (a .y) (b .y) (c .y) l₃ l₄ C D ny, three maxOf (a .x) (b .x) (c .x) u₁ u₂ E F nx, three maxOf (a .y) (b .y) (c .y) u₃ u₄ G H ny)
+module _ (a b c : Point) (l₁ l₂ l₃ l₄ u₁ u₂ u₃ u₄ : Float)
+    (A : Picked minOf (a .x) (b .x) l₁) (B : Picked minOf l₁ (c .x) l₂) (C : Picked minOf (a .y) (b .y) l₃) (D : Picked minOf l₃ (c .y) l₄)
+    (E : Picked maxOf (a .x) (b .x) u₁) (F : Picked maxOf u₁ (c .x) u₂) (G : Picked maxOf (a .y) (b .y) u₃) (H : Picked maxOf u₃ (c .y) u₄) where
+  pub leveled : IsNum (a .x) → IsNum (a .y) → _≡_ {A = Bounds} (record { «min_x» = l₂; «min_y» = l₄; «max_x» = u₂; «max_y» = u₄ }) (aroundOf a b c)
+  unfolding aroundOf
+  leveled nx ny = rw (three minOf (a .x) (b .x) (c .x) l₁ l₂ A B nx, three minOf (a .y) (b .y) (c .y) l₃ l₄ C D ny, three maxOf (a .x) (b .x) (c .x) u₁ u₂ E F nx, three maxOf (a .y) (b .y) (c .y) u₃ u₄ G H ny)
+
+  pub boxed : ne l₂ l₂ ≡ false → (let s = add binary32 (sub binary32 u₂ l₂) (sub binary32 u₄ l₄) in ne s s ≡ false)
+      → (_≡_ {A = Bounds} (record { «min_x» = l₂; «min_y» = l₄; «max_x» = u₂; «max_y» = u₄ }) (aroundOf a b c)) × IsNum (a .x) × IsNum (a .y)
+  boxed e s =
+      let nx : IsNum (a .x) = three-back minOf (a .x) (b .x) (c .x) l₁ l₂ A B (num-of-same l₂ e) in
+      let d = sub binary32 u₄ l₄ in
+      let ns : IsNum d = add-num-right binary32 (sub binary32 u₂ l₂) d (num-of-same (add binary32 (sub binary32 u₂ l₂) d) s) in
+      let ny : IsNum (a .y) = three-back minOf (a .y) (b .y) (c .y) l₃ l₄ C D (sub-num-right binary32 u₄ l₄ ns) in
+      (leveled nx ny, nx, ny)
 
 pub merged : (a b : Bounds) (l m u v : Float) → Sound a
     → Picked minOf (a .«min_x») (b .«min_x») l → Picked minOf (a .«min_y») (b .«min_y») m → Picked maxOf (a .«max_x») (b .«max_x») u → Picked maxOf (a .«max_y») (b .«max_y») v
