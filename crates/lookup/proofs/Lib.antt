@@ -12,6 +12,7 @@ pub mod Blocks
 pub mod Rising
 pub mod Level
 pub mod Picking
+pub mod Places
 pub mod Tallies
 pub mod Sixteens
 pub mod Answers
