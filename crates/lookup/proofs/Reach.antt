@@ -1,0 +1,113 @@
+-- How far a box may reach from the column of its lower bound: what the walk from column to column knows, and how many entries there may then be. Assumes nothing.
+use mathlib.Core.Path.{_≡_, refl, sym, ap, subst}
+use mathlib.Core.Logic.{_⊎_, inl, inr}
+use mathlib.Core.Bool.{true, false}
+use Prim.Native.Nat.{ℕ, _+_, _-_, _≤_, _<_}
+use native.Mathlib.Omega.{arith}
+use lib.Dec.{T}
+use lib.Ieee.{Float, nan, inf, fin, binary32, add, sub, lt, le, fits}
+use Rattle.rounding.specs.Column.{col}
+use Rattle.rounding.specs.Laws.Order.{IsNum, le-bottom, le-or-lt, le-of-lt, le-num-left, le-num-right, lt-num-left, lt-of-le-of-lt}
+use Rattle.rounding.specs.Laws.Column.{Width, col-mono, col-lt, low-bucket}
+use Rattle.rounding.specs.Laws.Sums.{add-num, add-num-left, sub-num-right, add-mono-left}
+use Rattle.lookup.proofs.Past.{past}
+
+-- ---- sums with w
+
+-- where lo + w is a number and w is not -infinity, a larger x has a sum that is a number too
+sum-num : (lo x w : Float) → T (le lo x) → IsNum (add binary32 lo w) → T (lt (inf true) w) → IsNum (add binary32 x w)
+unfolding add le lt
+sum-num lo x nan h p q = absurd q
+sum-num lo x (inf true) h p q = absurd q
+sum-num lo nan (inf false) h p q = absurd (le-num-right lo nan h)
+sum-num nan (inf true) (inf false) h p q = absurd p
+sum-num (inf true) (inf true) (inf false) h p q = absurd p
+sum-num (inf false) (inf true) (inf false) h p q = absurd h
+sum-num (fin s m e) (inf true) (inf false) h p q = absurd h
+sum-num lo (inf false) (inf false) h p q = tt
+sum-num lo (fin t n d) (inf false) h p q = tt
+sum-num lo x (fin u k g) h p q = add-num binary32 x (fin u k g) (le-num-right lo x h) tt
+
+-- its column is no lower
+sum-col : (m cell : Float) (count : ℕ) (w lo x : Float) → Width cell → T (le lo x) → IsNum (add binary32 lo w) → T (lt (inf true) w)
+    → col binary32 m cell count (add binary32 lo w) ≤ col binary32 m cell count (add binary32 x w)
+sum-col m cell count w lo x c h p q =
+    col-mono binary32 m cell count (add binary32 lo w) (add binary32 x w) c (add-mono-left binary32 lo x w h p (sum-num lo x w h p q))
+
+-- a nan has column 0
+col-nan : (m cell : Float) (count : ℕ) → Width cell → col binary32 m cell count nan ≡ 0
+unfolding col sub
+col-nan m cell count c = low-bucket binary32 nan cell count c tt
+
+-- ---- the walk
+
+-- no lo up to x lies more than `most` columns before its sum with w
+pub record Reached (m cell : Float) (count : ℕ) (w x : Float) (most : ℕ) : Type 0 where
+  pub few : most < count
+  pub far : (lo : Float) → T (le lo x) → IsNum (add binary32 lo w) → T (lt (inf true) w)
+      → col binary32 m cell count (add binary32 lo w) ≤ most + col binary32 m cell count lo
+
+-- what `reach` and `reach_of` answer for
+abbrev pub Reaches : Float → Float → ℕ → Float → ℕ → Type 0
+Reaches m cell count w r = ((lo hi : Float) → T (fits binary32 hi) → T (lt (sub binary32 hi lo) w) → col binary32 m cell count hi ≤ r + col binary32 m cell count lo) × (r < count)
+
+abbrev pub ReachesOf : Float → Float → ℕ → Float → ℕ → Type 0
+ReachesOf m cell count width r = ((lo hi : Float) → T (fits binary32 hi) → T (le (sub binary32 hi lo) width) → col binary32 m cell count hi ≤ r + col binary32 m cell count lo) × (r < count)
+
+-- of every lo
+abbrev Far : Float → Float → ℕ → Float → ℕ → Type 0
+Far m cell count w most = (lo : Float) → IsNum lo → IsNum (add binary32 lo w) → T (lt (inf true) w) → col binary32 m cell count (add binary32 lo w) ≤ most + col binary32 m cell count lo
+
+module _ (m cell : Float) (count : ℕ) (w : Float) (c : Width cell) (some : 0 < count) where
+  pub reached-first : {most : ℕ} → most ≡ col binary32 m cell count (add binary32 m w) → Reached m cell count w m most
+  reached-first e =
+      record {
+        few = omega (arith, col-lt binary32 m cell count (add binary32 m w) some);
+        far = λ lo h p q. omega (arith, sum-col m cell count w lo m c h p q);
+      }
+
+  pub reached-next : {x : Float} {most here there more : ℕ} → Reached m cell count w x most → here ≡ col binary32 m cell count x
+      → there ≡ col binary32 m cell count (add binary32 (add binary32 x cell) w) → more < count → most ≤ more → there ≤ more + here → Reached m cell count w (add binary32 x cell) more
+  reached-next {x} {most} {here} {there} {more} r i j l a b = record { few = l; far = far }
+    where
+      far : (lo : Float) → T (le lo (add binary32 x cell)) → IsNum (add binary32 lo w) → T (lt (inf true) w)
+          → col binary32 m cell count (add binary32 lo w) ≤ more + col binary32 m cell count lo
+      far lo h p q =
+          elim (le-or-lt lo x (le-num-left lo (add binary32 x cell) h) (add-num-left binary32 x cell (le-num-right lo (add binary32 x cell) h))) [
+            | inl g ↦ omega (arith, r .far lo g p q)
+            | inr g ↦ omega (arith, sum-col m cell count w lo (add binary32 x cell) c h p q, col-mono binary32 m cell count x lo c (le-of-lt x lo g))
+          ]
+
+  -- no lo at all, where x is in the last column
+  all : (x : Float) {most : ℕ} → Reached m cell count w x most → count - 1 ≤ col binary32 m cell count x → IsNum x → Far m cell count w most
+  all x r h n lo l p q =
+      elim (le-or-lt lo x l n) [
+        | inl g ↦ r .far lo g p q
+        | inr g ↦ omega (arith, col-mono binary32 m cell count x lo c (le-of-lt x lo g), col-lt binary32 m cell count (add binary32 lo w) some)
+      ]
+
+  last : (x : Float) {most : ℕ} → Reached m cell count w x most → count - 1 ≤ col binary32 m cell count x → Far m cell count w most
+  last nan r h lo l p q = omega (arith, col-nan m cell count c, col-lt binary32 m cell count (add binary32 lo w) some)
+  last (inf s) r h lo l p q = all (inf s) r h tt lo l p q
+  last (fin s k e) r h lo l p q = all (fin s k e) r h tt lo l p q
+
+  pub reached-last : {x : Float} {most here : ℕ} → T (fits binary32 w) → Reached m cell count w x most → here ≡ col binary32 m cell count x → count - 1 ≤ here → Reaches m cell count w most
+  reached-last {x} {most} ok r e h = (far, r .few)
+    where
+      far : (lo hi : Float) → T (fits binary32 hi) → T (lt (sub binary32 hi lo) w) → col binary32 m cell count hi ≤ most + col binary32 m cell count lo
+      far lo hi fit g =
+          let l : T (le hi (add binary32 lo w)) = past binary32 lo hi w fit ok g in
+          let n : IsNum (sub binary32 hi lo) = lt-num-left (sub binary32 hi lo) w g in
+          let k = last x r (omega arith) lo (sub-num-right binary32 hi lo n) (le-num-right hi (add binary32 lo w) l)
+          (lt-of-le-of-lt (inf true) (sub binary32 hi lo) w (le-bottom (sub binary32 hi lo) n) g) in
+          omega (arith, col-mono binary32 m cell count hi (add binary32 lo w) c l, k)
+
+  pub reaches-all : Reaches m cell count w (count - 1)
+  reaches-all = (λ lo hi fit g. omega (arith, col-lt binary32 m cell count hi some), omega arith)
+
+-- ---- what lies below w
+pub reaches-wide : (m cell : Float) (count : ℕ) (width w : Float) {r : ℕ} → Reaches m cell count w r → T (lt width w) → ReachesOf m cell count width r
+reaches-wide m cell count width w h g = (λ lo hi fit l. h .0 lo hi fit (lt-of-le-of-lt (sub binary32 hi lo) width w l g), h .1)
+
+pub reaches-whole : (m cell : Float) (count : ℕ) (width : Float) → 0 < count → ReachesOf m cell count width (count - 1)
+reaches-whole m cell count width some = (λ lo hi fit g. omega (arith, col-lt binary32 m cell count hi some), omega arith)
