@@ -90,10 +90,10 @@ module _ (f : Format) (s : Bool) (m : ℕ) (e : ℤ) (t : Bool) (n : ℕ) (d : �
   unfolding sub
   past-fin p q h =
       let c : Cross (rest .0) (rest .1) (down e * down d) u (k * up g) (down g)
-          = other u (k * up g) (down g) (rest .0) (rest .1) (down e * down d)
-          (λ w. lt→not-le (sub f (fin s m e) (fin t n d)) (fin u k g) h
-          (rw (rest .2) (subst (λ (x : Float). T (le x (round f (rest .0) (rest .1) (down e * down d)))) q
-          (round-order f u (k * up g) (down g) (rest .0) (rest .1) (down e * down d) (down-pos g) (mul-pos (down-pos e) (down-pos d)) w)))) in
+      = other u (k * up g) (down g) (rest .0) (rest .1) (down e * down d)
+      (λ w. lt→not-le (sub f (fin s m e) (fin t n d)) (fin u k g) h
+      (rw (rest .2) (subst (λ (x : Float). T (le x (round f (rest .0) (rest .1) (down e * down d)))) q
+      (round-order f u (k * up g) (down g) (rest .0) (rest .1) (down e * down d) (down-pos g) (mul-pos (down-pos e) (down-pos d)) w)))) in
       rw (whole .2)
       (subst (λ (x : Float). T (le x (round f (whole .0) (whole .1) (down d * down g)))) p
       (round-order f s (m * up e) (down e) (whole .0) (whole .1) (down d * down g) (down-pos e) (mul-pos (down-pos d) (down-pos g))

@@ -1,15 +1,31 @@
 -- How far a box may reach from the column of its lower bound: what the walk from column to column knows, and how many entries there may then be. Assumes nothing.
-use mathlib.Core.Path.{_≡_, refl, sym, ap, subst}
-use mathlib.Core.Logic.{_⊎_, inl, inr}
+use mathlib.Core.Path.{_≡_, refl}
+use mathlib.Core.Logic.{inl, inr}
 use mathlib.Core.Bool.{true, false}
-use Prim.Native.Nat.{ℕ, _+_, _-_, _≤_, _<_}
+use mathlib.Core.List.{List}
+use Prim.Native.Nat.{ℕ, zero, suc, _+_, _-_, _*_, _^_, _≤_, _<_, zero-le}
+use native.Mathlib.Nat.{mul-le-mul}
 use native.Mathlib.Omega.{arith}
 use lib.Dec.{T}
 use lib.Ieee.{Float, nan, inf, fin, binary32, add, sub, lt, le, fits}
+use lib.Ieee.Fits.{add-fits}
 use Rattle.rounding.specs.Column.{col}
 use Rattle.rounding.specs.Laws.Order.{IsNum, le-bottom, le-or-lt, le-of-lt, le-num-left, le-num-right, lt-num-left, lt-of-le-of-lt}
 use Rattle.rounding.specs.Laws.Column.{Width, col-mono, col-lt, low-bucket}
 use Rattle.rounding.specs.Laws.Sums.{add-num, add-num-left, sub-num-right, add-mono-left}
+use Rattle.lookup.specs.Mesh.{cornersOf}
+use Rattle.lookup.specs.Box.{grownBox, boxOf}
+use Rattle.lookup.specs.Index.{blockOf, blocksOf, inCell, start, cellsOf}
+use Rattle.lookup.specs.Steps.{Framed, Fits, Narrow}
+use Rattle.lookup.specs.Laws.Parts.{start-le}
+use Rattle.lookup.specs.Laws.Cells.{start-area}
+use Rattle.lookup.specs.Laws.Frames.{inside-of}
+use Rattle.lookup.specs.declared.mesh.Fetch.{Fetch}
+use Rattle.lookup.specs.declared.mesh.Fetch.the-variants.{Corners, Missing}
+use Rattle.lookup.specs.declared.grid.Bounds.{Bounds}
+use Rattle.lookup.specs.declared.grid.Boxed.{Boxed}
+use Rattle.lookup.specs.declared.grid.Boxed.the-variants.{Box, None}
+use Rattle.lookup.specs.declared.grid.Frame.{Frame}
 use Rattle.lookup.proofs.Past.{past}
 
 -- ---- sums with w
@@ -66,7 +82,7 @@ module _ (m cell : Float) (count : ℕ) (w : Float) (c : Width cell) (some : 0 <
         far = λ lo h p q. omega (arith, sum-col m cell count w lo m c h p q);
       }
 
-  pub reached-next : {x : Float} {most here there more : ℕ} → Reached m cell count w x most → here ≡ col binary32 m cell count x
+  reached-next : {x : Float} {most here there more : ℕ} → Reached m cell count w x most → here ≡ col binary32 m cell count x
       → there ≡ col binary32 m cell count (add binary32 (add binary32 x cell) w) → more < count → most ≤ more → there ≤ more + here → Reached m cell count w (add binary32 x cell) more
   reached-next {x} {most} {here} {there} {more} r i j l a b = record { few = l; far = far }
     where
@@ -77,6 +93,17 @@ module _ (m cell : Float) (count : ℕ) (w : Float) (c : Width cell) (some : 0 <
             | inl g ↦ omega (arith, r .far lo g p q)
             | inr g ↦ omega (arith, sum-col m cell count w lo (add binary32 x cell) c h p q, col-mono binary32 m cell count x lo c (le-of-lt x lo g))
           ]
+
+  -- a turn, by whether the next column calls for more
+  pub reached-more : {x : Float} {most here there more : ℕ} → Reached m cell count w x most → here ≡ col binary32 m cell count x
+      → there ≡ col binary32 m cell count (add binary32 (add binary32 x cell) w) → most + here < there → more ≡ there - here → Reached m cell count w (add binary32 x cell) more
+  reached-more {x} r i j l e =
+      let k : col binary32 m cell count (add binary32 (add binary32 x cell) w) < count = col-lt binary32 m cell count (add binary32 (add binary32 x cell) w) some in
+      reached-next r i j (omega arith) (omega arith) (omega arith)
+
+  pub reached-same : {x : Float} {most here there more : ℕ} → Reached m cell count w x most → here ≡ col binary32 m cell count x
+      → there ≡ col binary32 m cell count (add binary32 (add binary32 x cell) w) → there ≤ most + here → more ≡ most → Reached m cell count w (add binary32 x cell) more
+  reached-same r i j l e = reached-next r i j (omega (arith, r .few)) (omega arith) (omega arith)
 
   -- no lo at all, where x is in the last column
   all : (x : Float) {most : ℕ} → Reached m cell count w x most → count - 1 ≤ col binary32 m cell count x → IsNum x → Far m cell count w most
@@ -111,3 +138,49 @@ reaches-wide m cell count width w h g = (λ lo hi fit l. h .0 lo hi fit (lt-of-l
 
 pub reaches-whole : (m cell : Float) (count : ℕ) (width : Float) → 0 < count → ReachesOf m cell count width (count - 1)
 reaches-whole m cell count width some = (λ lo hi fit g. omega (arith, col-lt binary32 m cell count hi some), omega arith)
+
+-- ---- the entries
+
+-- the upper bounds of a box are such that the format holds them
+abbrev HeldBox : Boxed → Type 0
+HeldBox (Box e) = T (fits binary32 (e .«max_x»)) × T (fits binary32 (e .«max_y»))
+HeldBox None = Unit {0}
+
+held-grown : (g : Fetch) → HeldBox (grownBox g)
+unfolding grownBox
+held-grown (Corners a b c) = (add-fits binary32 _ _, add-fits binary32 _ _)
+held-grown Missing = tt
+
+held-box : (vs : List Float) (is : List ℕ) (t : ℕ) → HeldBox (boxOf vs is t)
+unfolding boxOf
+held-box vs is t = held-grown (cornersOf vs is t)
+
+sides : (l r a y h b : ℕ) → r ≤ a + l → h ≤ b + y → (h + 1 - y) * (r + 1 - l) ≤ (b + 1) * (a + 1)
+sides l r a y h b p q = let u : h + 1 - y ≤ b + 1 = omega arith in let v : r + 1 - l ≤ a + 1 = omega arith in mul-le-mul u v
+
+another : (p q a b t s : ℕ) → s ≡ p + q → p ≤ (a + 1) * (b + 1) * t → q ≤ (b + 1) * (a + 1) → s ≤ (a + 1) * (b + 1) * suc t
+another p q a b t s e h k = omega arith
+
+module _ (f : Frame) (width height : Float) (a b : ℕ) (x : ReachesOf (f .«min_x») (f .cell) (f .cols) width a) (y : ReachesOf (f .«min_y») (f .cell) (f .rows) height b) where
+  block-few : (g : Boxed) → HeldBox g → ((e : Bounds) → g ≡ Box e → Fits e width height)
+      → (blockOf f g .high + 1 - blockOf f g .low) * (blockOf f g .right + 1 - blockOf f g .left) ≤ (b + 1) * (a + 1)
+  unfolding blockOf
+  block-few (Box e) h k =
+      sides _ _ a _ _ b (x .0 (e .«min_x») (e .«max_x») (h .0) (k e refl .wide)) (y .0 (e .«min_y») (e .«max_y») (h .1) (k e refl .high))
+  block-few None h k = zero-le
+
+  module _ (ok : Framed f) (vs : List Float) (is : List ℕ) where
+    pub entries-few : (n : ℕ) → Narrow vs is n width height → start (inCell vs is f) n (cellsOf f) ≤ (a + 1) * (b + 1) * n
+    unfolding blocksOf
+    entries-few zero h = omega (arith, start-le (inCell vs is f) 0 (cellsOf f))
+    entries-few (suc t) h =
+        another _ _ a b t _ (start-area (blocksOf vs is f) (f .cols) (f .rows) t (inside-of vs is ok t))
+        (entries-few t (λ i l. h i (omega arith)))
+        (block-few (boxOf vs is t) (held-box vs is t) (h t (omega arith)))
+
+-- how large that may be
+pub sides-few : {a b c d : ℕ} → a < c → c ≤ 1024 → b < d → d ≤ 1024 → (a + 1) * (b + 1) ≤ 1048576
+sides-few {a} {b} h k p q = let u : a + 1 ≤ 1024 = omega arith in let v : b + 1 ≤ 1024 = omega arith in mul-le-mul u v
+
+pub most-few : {k n : ℕ} → k ≤ 1048576 → n ≤ 65536 → k * n ≤ 2 ^ 36
+most-few h l = mul-le-mul h l
