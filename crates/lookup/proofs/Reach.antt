@@ -70,7 +70,7 @@ Reaches m cell count w r = ((lo hi : Float) → T (fits binary32 hi) → T (lt (
 abbrev pub ReachesOf : Float → Float → ℕ → Float → ℕ → Type 0
 ReachesOf m cell count width r = ((lo hi : Float) → T (fits binary32 hi) → T (le (sub binary32 hi lo) width) → col binary32 m cell count hi ≤ r + col binary32 m cell count lo) × (r < count)
 
--- of every lo
+-- no lo that is a number lies more than `most` columns before its sum with w
 abbrev Far : Float → Float → ℕ → Float → ℕ → Type 0
 Far m cell count w most = (lo : Float) → IsNum lo → IsNum (add binary32 lo w) → T (lt (inf true) w) → col binary32 m cell count (add binary32 lo w) ≤ most + col binary32 m cell count lo
 
@@ -105,7 +105,7 @@ module _ (m cell : Float) (count : ℕ) (w : Float) (c : Width cell) (some : 0 <
       → there ≡ col binary32 m cell count (add binary32 (add binary32 x cell) w) → there ≤ most + here → more ≡ most → Reached m cell count w (add binary32 x cell) more
   reached-same r i j l e = reached-next r i j (omega (arith, r .few)) (omega arith) (omega arith)
 
-  -- no lo at all, where x is in the last column
+  -- the last turn: x is in the last column
   all : (x : Float) {most : ℕ} → Reached m cell count w x most → count - 1 ≤ col binary32 m cell count x → IsNum x → Far m cell count w most
   all x r h n lo l p q =
       elim (le-or-lt lo x l n) [
@@ -132,7 +132,7 @@ module _ (m cell : Float) (count : ℕ) (w : Float) (c : Width cell) (some : 0 <
   pub reaches-all : Reaches m cell count w (count - 1)
   reaches-all = (λ lo hi fit g. omega (arith, col-lt binary32 m cell count hi some), omega arith)
 
--- ---- what lies below w
+-- what is no wider than `width` is less wide than w
 pub reaches-wide : (m cell : Float) (count : ℕ) (width w : Float) {r : ℕ} → Reaches m cell count w r → T (lt width w) → ReachesOf m cell count width r
 reaches-wide m cell count width w h g = (λ lo hi fit l. h .0 lo hi fit (lt-of-le-of-lt (sub binary32 hi lo) width w l g), h .1)
 
@@ -141,7 +141,7 @@ reaches-whole m cell count width some = (λ lo hi fit g. omega (arith, col-lt bi
 
 -- ---- the entries
 
--- the upper bounds of a box are such that the format holds them
+-- the format holds the upper bounds of a box
 abbrev HeldBox : Boxed → Type 0
 HeldBox (Box e) = T (fits binary32 (e .«max_x»)) × T (fits binary32 (e .«max_y»))
 HeldBox None = Unit {0}
