@@ -17,4 +17,6 @@ pub mod Tallies
 pub mod Sixteens
 pub mod Answers
 pub mod Fronts
+pub mod Past
+pub mod Reach
 pub mod OnePoint
