@@ -1,4 +1,4 @@
--- How far a box may reach from the column of its lower bound: what the walk from column to column knows, and how many entries there may then be. Assumes nothing.
+-- How far a box may reach from the column of its lower bound: what the walk over the columns knows, and how many entries there may then be. Assumes nothing.
 use mathlib.Core.Path.{_≡_, refl}
 use mathlib.Core.Logic.{inl, inr}
 use mathlib.Core.Bool.{true, false}
@@ -82,28 +82,28 @@ module _ (m cell : Float) (count : ℕ) (w : Float) (c : Width cell) (some : 0 <
         far = λ lo h p q. omega (arith, sum-col m cell count w lo m c h p q);
       }
 
-  reached-next : {x : Float} {most here there more : ℕ} → Reached m cell count w x most → here ≡ col binary32 m cell count x
-      → there ≡ col binary32 m cell count (add binary32 (add binary32 x cell) w) → more < count → most ≤ more → there ≤ more + here → Reached m cell count w (add binary32 x cell) more
-  reached-next {x} {most} {here} {there} {more} r i j l a b = record { few = l; far = far }
+  reached-next : (step : Float) {x : Float} {most here there more : ℕ} → Reached m cell count w x most → here ≡ col binary32 m cell count x
+      → there ≡ col binary32 m cell count (add binary32 (add binary32 x step) w) → more < count → most ≤ more → there ≤ more + here → Reached m cell count w (add binary32 x step) more
+  reached-next step {x} {most} {here} {there} {more} r i j l a b = record { few = l; far = far }
     where
-      far : (lo : Float) → T (le lo (add binary32 x cell)) → IsNum (add binary32 lo w) → T (lt (inf true) w)
+      far : (lo : Float) → T (le lo (add binary32 x step)) → IsNum (add binary32 lo w) → T (lt (inf true) w)
           → col binary32 m cell count (add binary32 lo w) ≤ more + col binary32 m cell count lo
       far lo h p q =
-          elim (le-or-lt lo x (le-num-left lo (add binary32 x cell) h) (add-num-left binary32 x cell (le-num-right lo (add binary32 x cell) h))) [
+          elim (le-or-lt lo x (le-num-left lo (add binary32 x step) h) (add-num-left binary32 x step (le-num-right lo (add binary32 x step) h))) [
             | inl g ↦ omega (arith, r .far lo g p q)
-            | inr g ↦ omega (arith, sum-col m cell count w lo (add binary32 x cell) c h p q, col-mono binary32 m cell count x lo c (le-of-lt x lo g))
+            | inr g ↦ omega (arith, sum-col m cell count w lo (add binary32 x step) c h p q, col-mono binary32 m cell count x lo c (le-of-lt x lo g))
           ]
 
-  -- a turn, by whether the next column calls for more
-  pub reached-more : {x : Float} {most here there more : ℕ} → Reached m cell count w x most → here ≡ col binary32 m cell count x
-      → there ≡ col binary32 m cell count (add binary32 (add binary32 x cell) w) → most + here < there → more ≡ there - here → Reached m cell count w (add binary32 x cell) more
-  reached-more {x} r i j l e =
-      let k : col binary32 m cell count (add binary32 (add binary32 x cell) w) < count = col-lt binary32 m cell count (add binary32 (add binary32 x cell) w) some in
-      reached-next r i j (omega arith) (omega arith) (omega arith)
+  -- a turn, by whether the next step calls for more
+  pub reached-more : (step : Float) {x : Float} {most here there more : ℕ} → Reached m cell count w x most → here ≡ col binary32 m cell count x
+      → there ≡ col binary32 m cell count (add binary32 (add binary32 x step) w) → most + here < there → more ≡ there - here → Reached m cell count w (add binary32 x step) more
+  reached-more step {x} r i j l e =
+      let k : col binary32 m cell count (add binary32 (add binary32 x step) w) < count = col-lt binary32 m cell count (add binary32 (add binary32 x step) w) some in
+      reached-next step r i j (omega arith) (omega arith) (omega arith)
 
-  pub reached-same : {x : Float} {most here there more : ℕ} → Reached m cell count w x most → here ≡ col binary32 m cell count x
-      → there ≡ col binary32 m cell count (add binary32 (add binary32 x cell) w) → there ≤ most + here → more ≡ most → Reached m cell count w (add binary32 x cell) more
-  reached-same r i j l e = reached-next r i j (omega (arith, r .few)) (omega arith) (omega arith)
+  pub reached-same : (step : Float) {x : Float} {most here there more : ℕ} → Reached m cell count w x most → here ≡ col binary32 m cell count x
+      → there ≡ col binary32 m cell count (add binary32 (add binary32 x step) w) → there ≤ most + here → more ≡ most → Reached m cell count w (add binary32 x step) more
+  reached-same step r i j l e = reached-next step r i j (omega (arith, r .few)) (omega arith) (omega arith)
 
   -- the last turn: x is in the last column
   all : (x : Float) {most : ℕ} → Reached m cell count w x most → count - 1 ≤ col binary32 m cell count x → IsNum x → Far m cell count w most
