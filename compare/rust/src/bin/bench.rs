@@ -98,6 +98,22 @@ fn lookups(b: &Bench) {
             || black_box(&m).sampler(),
             || { let _ = black_box(ours::build(black_box(&l), &mut index)); },
         );
+        // no more words than it takes: they are counted first
+        let mut exact = index_of(&l);
+        b.pair(
+            &format!("building the index, no word to spare, {n} triangles"), 1, 0.0,
+            || black_box(&m).sampler(),
+            || { let _ = black_box(ours::build(black_box(&l), &mut exact)); },
+        );
+        // one corner that is no number: no triangle takes the quick way
+        let mut odd = road_mesh(n);
+        odd.vertices[0].x = f32::NAN;
+        let o = Lists::of(&odd);
+        b.pair(
+            &format!("building the index, a NaN in one corner, {n} triangles"), 1, 0.0,
+            || black_box(&odd).sampler(),
+            || { let _ = black_box(ours::build(black_box(&o), &mut index)); },
+        );
         b.pair(
             &format!("validate, {n} triangles, sound"), 1, 0.8,
             || { let _ = black_box(black_box(&m).validate()); },
