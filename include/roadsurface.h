@@ -170,8 +170,8 @@ uint64_t rs_height_at(
     float x, float y, uint64_t *answer, size_t answer_count);
 
 /* Builds the index of a mesh, for rs_top and rs_tops over that same mesh.
- * Lists: as rs_height_at. It takes about 530 KB of stack. Written: index. answer: how many words the
- * index has. */
+ * Lists: as rs_height_at. Written: index. answer: how many words the index has. It is quickest where
+ * many more words are lent than the index takes: else these are counted first. */
 uint64_t rs_build_index(
     const float *vertices, size_t vertices_count, const float *normals, size_t normals_count,
     const uint32_t *indices, size_t indices_count, const uint32_t *spans, size_t spans_count,
@@ -220,7 +220,7 @@ uint64_t rs_surface_write(
     uint64_t *answer, size_t answer_count);
 
 /* The text that the program `probe` prints of a surface file; that of a bad file says so. The only
- * refusal is a short output. It takes about 940 KB of stack. Written: text. answer: how many bytes. */
+ * refusal is a short output. It takes about 410 KB of stack. Written: text. answer: how many bytes. */
 uint64_t rs_report(
     const uint8_t *bytes, size_t bytes_count, uint8_t *text, size_t text_count,
     uint64_t *answer, size_t answer_count);
