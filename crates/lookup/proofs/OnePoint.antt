@@ -1,11 +1,11 @@
 -- One point, asked as many are: its answer is read back from its record. A record tells an answer apart only if its floats are singles and its refusal is of
 -- one number, so both are shown of `topOf`. Assumes nothing.
-use Prim.Native.Nat.{ℕ, zero, suc, _+_, _-_, _/_}
+use Prim.Native.Nat.{ℕ, _/_}
 use mathlib.Core.Path.{_≡_, refl, sym, ap, _∙_, subst}
-use mathlib.Core.Bool.{Bool, true, false, not, _&&_, cond}
+use mathlib.Core.Bool.{Bool, true, false, _&&_, cond}
 use mathlib.Core.List.{List, [], _∷_, append-nil}
 use native.Mathlib.Omega.{arith}
-use lib.Dec.{T, leb, ltb, eqb}
+use lib.Dec.{T, ltb}
 use lib.Ieee.{Float, binary32, lt, ofBits, toBits, fits}
 use lib.Ieee.Bits.{ofBits-toBits, ofBits-fits}
 use lib.Ieee.Fits.{neg-fits, add-fits, mul-fits}
@@ -19,7 +19,7 @@ use Rattle.vector.specs.declared.coords.Vector.{Vector}
 use Rattle.shape.specs.declared.refusal.Refusal.{Refusal}
 use Rattle.shape.specs.declared.refusal.Refusal.the-variants.{ForeignIndex}
 use Rattle.shape.specs.Lists.{Mesh}
-use Rattle.shape.specs.Refusal.{Fault, fine, fault, refuse, Answer, taken, refused, judge, leaves, numberOf, placeOf}
+use Rattle.shape.specs.Refusal.{Fault, fine, fault, Answer, taken, refused, judge, leaves, numberOf, placeOf}
 use Rattle.lookup.specs.declared.mesh.Weights.{Weights}
 use Rattle.lookup.specs.declared.mesh.Best.{Best}
 use Rattle.lookup.specs.declared.mesh.Best.the-variants.{At, Nothing}
@@ -29,82 +29,15 @@ use Rattle.lookup.specs.declared.sampler.Sampled.the-variants.{Found, No
 use Rattle.lookup.specs.Mesh.{triangles, present, cornerOf}
 use Rattle.lookup.specs.Cover.{weightsAt, liftOf, heightOf, smoothOf, blendOf, flatOf, faceUp, normalOf}
 use Rattle.lookup.specs.Plain.{scanOf, entryOf}
-use Rattle.lookup.specs.Consult.{wordAt, sides, declares, headFault, inside, cellAt, startAt, firstAt, orElse, entryFault, startFault, Place, nowhere, runIn, runOf, consultOf}
+use Rattle.lookup.specs.Consult.{Place, runIn, consultOf}
 use Rattle.lookup.specs.Sampler.{Sample, hit, miss, topFault, sampleOf, sampleIn, onward, topOf, readSampled}
 use Rattle.lookup.specs.Batch.{laneThere, laneId, recordOf, recordsOf, topsOf}
 use Rattle.lookup.specs.Steps.{AtMostForeign, SingleVector, Singles}
 use Rattle.lookup.specs.Laws.Scan.{scan-found}
+use Rattle.lookup.specs.Laws.Limits.{index-in-order}
+use Rattle.lookup.specs.Laws.Faults.{never, holds-onward, consult-holds}
 use Rattle.lookup.specs.Laws.Batch.{one-taken, one-record}
 use Rattle.lookup.proofs.Batches.{record-eight}
-
--- ---- the number of a fault, if it is one, is 4
-
-abbrev Foreign : Fault → Type 0
-Foreign f = (k p : ℕ) → f ≡ fault k p → k ≡ 4
-
-foreign-fine : Foreign fine
-foreign-fine k p e = absurd (let z : _≡_ {A = ℕ} 0 1 = cc in omega arith)
-
-foreign-refuse : (b : Bool) (p : ℕ) (f : Fault) → Foreign f → Foreign (refuse b 4 p f)
-unfolding refuse
-foreign-refuse true p f g k q e = let z : 4 ≡ k = cc in sym z
-foreign-refuse false p f g k q e = g k q e
-
-foreign-else : (f g : Fault) → Foreign f → Foreign g → Foreign (orElse f g)
-unfolding orElse
-foreign-else fine g h k = k
-foreign-else (fault i p) g h k = h
-
-never : {A : Type 0} {a : A} {k p : ℕ} → taken a ≡ refused k p → ⊥
-never e = let z : _≡_ {A = ℕ} 0 1 = cc in omega arith
-
-foreign-judge : {A : Type 0} (f : Fault) (a : Answer A) → Foreign f → AtMostForeign a → AtMostForeign (judge f a)
-unfolding judge
-foreign-judge fine a h g k p e = g k p e
-foreign-judge (fault i q) a h g k p e = h k p (cc)
-
-module _ (ws : List ℕ) (count : ℕ) where
-  head-foreign : Foreign (headFault ws count)
-  unfolding headFault
-  head-foreign =
-      foreign-refuse (ltb (length ws) 9) (length ws) _
-      (foreign-refuse (not (eqb (wordAt ws 0) count)) 0 _
-      (foreign-refuse (not (sides (wordAt ws 1) (wordAt ws 2))) (cond (ltb 1024 (wordAt ws 1)) 1 2) _
-      (foreign-refuse (ltb (length ws) (declares ws)) (length ws) fine foreign-fine)))
-
-  entry-foreign : (from k : ℕ) → Foreign (entryFault ws count from k)
-  unfolding entryFault
-  entry-foreign from zero = foreign-fine
-  entry-foreign from (suc k) =
-      foreign-else (entryFault ws count from k) (refuse (leb count (wordAt ws (from + k))) 4 (from + k) fine) (entry-foreign from k)
-      (foreign-refuse (leb count (wordAt ws (from + k))) (from + k) fine foreign-fine)
-
-  start-foreign : (c : ℕ) → Foreign (startFault ws c)
-  unfolding startFault
-  start-foreign c =
-      foreign-refuse (ltb (wordAt ws 8) (startAt ws c)) (9 + c) _
-      (foreign-refuse (ltb (startAt ws (suc c)) (startAt ws c)) (10 + c) _
-      (foreign-refuse (ltb (wordAt ws 8) (startAt ws (suc c))) (10 + c) fine foreign-fine))
-
-  run-foreign : (c : ℕ) → AtMostForeign (runOf ws count c)
-  unfolding runOf
-  run-foreign c =
-      foreign-judge (orElse (startFault ws c) (entryFault ws count (firstAt ws + startAt ws c) (startAt ws (suc c) - startAt ws c))) _
-      (foreign-else (startFault ws c) _ (start-foreign c) (entry-foreign (firstAt ws + startAt ws c) (startAt ws (suc c) - startAt ws c)))
-      (λ k p e. absurd (never e))
-
-  consult-foreign : (x y : Float) → AtMostForeign (consultOf ws count x y)
-  unfolding consultOf
-  consult-foreign x y = foreign-judge (headFault ws count) _ head-foreign (cell (not (eqb (wordAt ws 1) 0) && inside ws x y))
-    where
-      cell : (b : Bool) → AtMostForeign (cond b (runOf ws count (cellAt ws x y)) (taken nowhere))
-      cell true = run-foreign (cellAt ws x y)
-      cell false = λ k p e. absurd (never e)
-
-onward-foreign : {A B : Type 0} (a : Answer A) (f : A → B) → AtMostForeign a → AtMostForeign (onward a f)
-unfolding onward
-onward-foreign (taken a) f h k p e = absurd (never e)
-onward-foreign (refused i q) f h k p e = h k p (cc)
 
 -- ---- heights and normals are singles: each comes out of an operation that rounds to one
 
@@ -178,7 +111,9 @@ module _ (m : Mesh) (ws : List ℕ) (x y : Float) where
 
   pub foreign : topFault m ws ≡ fine → AtMostForeign (topOf m ws x y)
   unfolding topOf judge
-  foreign f = rw f (onward-foreign _ _ (consult-foreign ws (triangles (m .indices)) x y))
+  foreign f =
+      let four : ℕ → ℕ → Type 0 = λ (k p : ℕ). k ≡ 4 in
+      rw f (holds-onward four _ _ (consult-holds four (λ p l. refl) ws (triangles (m .indices)) (index-in-order m ws f) x y))
 
 -- ---- what a record tells
 

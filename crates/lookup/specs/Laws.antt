@@ -13,4 +13,5 @@ pub mod Spans
 pub mod Limits
 pub mod Lanes
 pub mod Demand3
+pub mod Faults
 pub mod Batch
