@@ -17,6 +17,5 @@ pub mod Tallies
 pub mod Sixteens
 pub mod Answers
 pub mod Fronts
-pub mod Past
 pub mod Reach
 pub mod OnePoint

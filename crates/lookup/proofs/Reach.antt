@@ -12,6 +12,7 @@ use lib.Ieee.Fits.{add-fits}
 use Rattle.rounding.specs.Column.{col}
 use Rattle.rounding.specs.Laws.Order.{IsNum, le-bottom, le-or-lt, le-of-lt, le-num-left, le-num-right, lt-num-left, lt-of-le-of-lt}
 use Rattle.rounding.specs.Laws.Column.{Width, col-mono, col-lt, low-bucket}
+use Rattle.rounding.specs.Laws.Past.{past}
 use Rattle.rounding.specs.Laws.Sums.{add-num, add-num-left, sub-num-right, add-mono-left}
 use Rattle.lookup.specs.Mesh.{cornersOf}
 use Rattle.lookup.specs.Box.{grownBox, boxOf}
@@ -26,7 +27,6 @@ use Rattle.lookup.specs.declared.grid.Bounds.{Bounds}
 use Rattle.lookup.specs.declared.grid.Boxed.{Boxed}
 use Rattle.lookup.specs.declared.grid.Boxed.the-variants.{Box, None}
 use Rattle.lookup.specs.declared.grid.Frame.{Frame}
-use Rattle.lookup.proofs.Past.{past}
 
 -- ---- sums with w
 

@@ -11,6 +11,7 @@ pub mod Products
 pub mod Count
 pub mod Whole
 pub mod Width
+pub mod Past
 pub mod Extremes
 pub mod Column
 pub mod Stored

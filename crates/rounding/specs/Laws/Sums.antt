@@ -14,13 +14,13 @@ use Rattle.rounding.specs.Laws.Order.{IsNum, Le, le→Le, le-bottom, le-
 use Rattle.rounding.specs.Laws.Rounding.{neg-anti, round-order, round-num}
 
 -- ---- `sum` rounds the number ±z / c, which is ±a / c + ±b / c
-abbrev Total : Bool → ℕ → Bool → ℕ → Bool → ℕ → Type 0
+abbrev pub Total : Bool → ℕ → Bool → ℕ → Bool → ℕ → Type 0
 Total s a t b r z = pp r z + (nn s a + nn t b) ≡ nn r z + (pp s a + pp t b)
 
-abbrev Rounds : Format → Bool → ℕ → Bool → ℕ → ℕ → Type 0
+abbrev pub Rounds : Format → Bool → ℕ → Bool → ℕ → ℕ → Type 0
 Rounds f s a t b c = (r : Bool) × (z : ℕ) × (sum f s a t b c ≡ round f r z c) × Total s a t b r z
 
-sum-rounds : (f : Format) (s : Bool) (a : ℕ) (t : Bool) (b c : ℕ) → Rounds f s a t b c
+pub sum-rounds : (f : Format) (s : Bool) (a : ℕ) (t : Bool) (b c : ℕ) → Rounds f s a t b c
 unfolding sum
 sum-rounds f false a false b c = (false, a + b, refl, omega arith)
 sum-rounds f true a true b c = (true, a + b, refl, omega arith)

@@ -1,43 +1,18 @@
 -- Where hi - lo, rounded, lies below w, then hi is at most lo + w, rounded: for every lo, and every hi and w that the format holds. Assumes nothing.
 use mathlib.Core.Path.{_≡_, refl, sym, ap, _∙_, subst}
-use Prim.Native.Nat.{ℕ, _+_, _-_, _*_, _≤_, _<_}
+use Prim.Native.Nat.{ℕ, _+_, _*_, _≤_, _<_}
 use native.Mathlib.Nat.{mul-pos}
 use native.Mathlib.Omega.{arith}
-use mathlib.Core.Bool.{Bool, true, false, not, cond}
+use mathlib.Core.Bool.{Bool, true, false, not}
 use lib.IntN.{ℤ}
-use lib.Dec.{T, leb, leb→le, nleb→lt, ltb, ltb→lt, nltb→le}
-use lib.Ieee.{Float, nan, inf, fin, Format, up, down, round, sum, add, sub, lt, le, fits}
+use lib.Dec.{T, leb, leb→le, nleb→lt}
+use lib.Ieee.{Float, nan, inf, fin, Format, up, down, round, add, sub, lt, le, fits}
 use lib.Ieee.Fits.{down-pos}
 use Rattle.rounding.specs.Laws.Signed.{pp, nn, Cross, pp-mul, nn-mul}
 use Rattle.rounding.specs.Laws.Order.{IsNum, le-bottom, le-top, lt→not-le, lt-num-left, lt-num-right}
 use Rattle.rounding.specs.Laws.Rounding.{round-order}
 use Rattle.rounding.specs.Laws.Width.{narrow-fin, narrow-same}
-use Rattle.rounding.specs.Laws.Sums.{add-num, sub-num-left, sub-num-right}
-
--- ---- a sum is ±z / c, rounded, which is ±a / c + ±b / c
-abbrev Total : Bool → ℕ → Bool → ℕ → Bool → ℕ → Type 0
-Total s a t b r z = pp r z + (nn s a + nn t b) ≡ nn r z + (pp s a + pp t b)
-
-abbrev Rounds : Format → Bool → ℕ → Bool → ℕ → ℕ → Type 0
-Rounds f s a t b c = (r : Bool) × (z : ℕ) × (sum f s a t b c ≡ round f r z c) × Total s a t b r z
-
-sum-rounds : (f : Format) (s : Bool) (a : ℕ) (t : Bool) (b c : ℕ) → Rounds f s a t b c
-unfolding sum
-sum-rounds f false a false b c = (false, a + b, refl, omega arith)
-sum-rounds f true a true b c = (true, a + b, refl, omega arith)
-sum-rounds f false a true b c = go (ltb a b) (ltb→lt a b) (nltb→le a b)
-  where
-    go : (x : Bool) → (T x → a < b) → (T (not x) → b ≤ a)
-        → (r : Bool) × (z : ℕ) × (cond x (round f true (b - a) c) (round f false (a - b) c) ≡ round f r z c) × Total false a true b r z
-    go true p q = (true, b - a, refl, let h : a < b = p tt in omega arith)
-    go false p q = (false, a - b, refl, let h : b ≤ a = q tt in omega arith)
-sum-rounds f true a false b c = go (ltb a b) (ltb b a) (ltb→lt a b) (nltb→le a b) (ltb→lt b a) (nltb→le b a)
-  where
-    go : (x y : Bool) → (T x → a < b) → (T (not x) → b ≤ a) → (T y → b < a) → (T (not y) → a ≤ b)
-        → (r : Bool) × (z : ℕ) × (cond x (round f false (b - a) c) (round f y (a - b) c) ≡ round f r z c) × Total true a false b r z
-    go true y p q u v = (false, b - a, refl, let h : a < b = p tt in omega arith)
-    go false true p q u v = (true, a - b, refl, let h : b < a = u tt in omega arith)
-    go false false p q u v = (false, a - b, refl, let h : b ≤ a = q tt in let k : a ≤ b = v tt in omega arith)
+use Rattle.rounding.specs.Laws.Sums.{Total, Rounds, sum-rounds, add-num, sub-num-left, sub-num-right}
 
 -- ---- the arithmetic, with each number as a difference: where X / c less Y / d is at most W / g, then X / c is at most Y / d plus W / g
 glue : (p n q m k l c d g P N Q M : ℕ)
