@@ -164,6 +164,12 @@ fn index_of(m: &Lists) -> R<Vec<u32>> {
     untouched(&index, n, WORD)?;
     short(n, WORD, |out| ours::build(m, out).map(|_| ()))?;
     index.truncate(n);
+    // with this much room the words are mostly not counted first
+    let mut roomy = vec![WORD; (n + 16 * m.indices.len()).min(4_194_304)];
+    if ours::build(m, &mut roomy).or_else(refused)? != n || roomy[..n] != index {
+        return Err("built with more room, the index differs".into());
+    }
+    untouched(&roomy, n, WORD)?;
     Ok(index)
 }
 
