@@ -63,12 +63,15 @@ pub record Reached (m cell : Float) (count : ℕ) (w x : Float) (most : ℕ) : T
   pub far : (lo : Float) → T (le lo x) → IsNum (add binary32 lo w) → T (lt (inf true) w)
       → col binary32 m cell count (add binary32 lo w) ≤ most + col binary32 m cell count lo
 
--- what `reach` and `reach_of` answer for
-abbrev pub Reaches : Float → Float → ℕ → Float → ℕ → Type 0
-Reaches m cell count w r = ((lo hi : Float) → T (fits binary32 hi) → T (lt (sub binary32 hi lo) w) → col binary32 m cell count hi ≤ r + col binary32 m cell count lo) × (r < count)
+-- what `reach` and `reach_of` answer for, where P is asked of the rounded width hi - lo
+abbrev pub Reaches : Float → Float → ℕ → (Float → Type 0) → ℕ → Type 0
+Reaches m cell count P r = ((lo hi : Float) → T (fits binary32 hi) → P (sub binary32 hi lo) → col binary32 m cell count hi ≤ r + col binary32 m cell count lo) × (r < count)
 
-abbrev pub ReachesOf : Float → Float → ℕ → Float → ℕ → Type 0
-ReachesOf m cell count width r = ((lo hi : Float) → T (fits binary32 hi) → T (le (sub binary32 hi lo) width) → col binary32 m cell count hi ≤ r + col binary32 m cell count lo) × (r < count)
+abbrev pub Below : Float → Float → Type 0
+Below w d = T (lt d w)
+
+abbrev pub UpTo : Float → Float → Type 0
+UpTo width d = T (le d width)
 
 -- no lo that is a number lies more than `most` columns before its sum with w
 abbrev Far : Float → Float → ℕ → Float → ℕ → Type 0
@@ -118,7 +121,7 @@ module _ (m cell : Float) (count : ℕ) (w : Float) (c : Width cell) (some : 0 <
   last (inf s) r h lo l p q = all (inf s) r h tt lo l p q
   last (fin s k e) r h lo l p q = all (fin s k e) r h tt lo l p q
 
-  pub reached-last : {x : Float} {most here : ℕ} → T (fits binary32 w) → Reached m cell count w x most → here ≡ col binary32 m cell count x → count - 1 ≤ here → Reaches m cell count w most
+  pub reached-last : {x : Float} {most here : ℕ} → T (fits binary32 w) → Reached m cell count w x most → here ≡ col binary32 m cell count x → count - 1 ≤ here → Reaches m cell count (Below w) most
   reached-last {x} {most} ok r e h = (far, r .few)
     where
       far : (lo hi : Float) → T (fits binary32 hi) → T (lt (sub binary32 hi lo) w) → col binary32 m cell count hi ≤ most + col binary32 m cell count lo
@@ -129,15 +132,13 @@ module _ (m cell : Float) (count : ℕ) (w : Float) (c : Width cell) (some : 0 <
           (lt-of-le-of-lt (inf true) (sub binary32 hi lo) w (le-bottom (sub binary32 hi lo) n) g) in
           omega (arith, col-mono binary32 m cell count hi (add binary32 lo w) c l, k)
 
-  pub reaches-all : Reaches m cell count w (count - 1)
-  reaches-all = (λ lo hi fit g. omega (arith, col-lt binary32 m cell count hi some), omega arith)
+-- the last column is always far enough
+pub reaches-all : (m cell : Float) (count : ℕ) (P : Float → Type 0) → 0 < count → Reaches m cell count P (count - 1)
+reaches-all m cell count P some = (λ lo hi fit g. omega (arith, col-lt binary32 m cell count hi some), omega arith)
 
 -- what is no wider than `width` is less wide than w
-pub reaches-wide : (m cell : Float) (count : ℕ) (width w : Float) {r : ℕ} → Reaches m cell count w r → T (lt width w) → ReachesOf m cell count width r
+pub reaches-wide : (m cell : Float) (count : ℕ) (width w : Float) {r : ℕ} → Reaches m cell count (Below w) r → T (lt width w) → Reaches m cell count (UpTo width) r
 reaches-wide m cell count width w h g = (λ lo hi fit l. h .0 lo hi fit (lt-of-le-of-lt (sub binary32 hi lo) width w l g), h .1)
-
-pub reaches-whole : (m cell : Float) (count : ℕ) (width : Float) → 0 < count → ReachesOf m cell count width (count - 1)
-reaches-whole m cell count width some = (λ lo hi fit g. omega (arith, col-lt binary32 m cell count hi some), omega arith)
 
 -- ---- the entries
 
@@ -161,7 +162,7 @@ sides l r a y h b p q = let u : h + 1 - y ≤ b + 1 = omega arith in let v : r +
 another : (p q a b t s : ℕ) → s ≡ p + q → p ≤ (a + 1) * (b + 1) * t → q ≤ (b + 1) * (a + 1) → s ≤ (a + 1) * (b + 1) * suc t
 another p q a b t s e h k = omega arith
 
-module _ (f : Frame) (width height : Float) (a b : ℕ) (x : ReachesOf (f .«min_x») (f .cell) (f .cols) width a) (y : ReachesOf (f .«min_y») (f .cell) (f .rows) height b) where
+module _ (f : Frame) (width height : Float) (a b : ℕ) (x : Reaches (f .«min_x») (f .cell) (f .cols) (UpTo width) a) (y : Reaches (f .«min_y») (f .cell) (f .rows) (UpTo height) b) where
   block-few : (g : Boxed) → HeldBox g → ((e : Bounds) → g ≡ Box e → Fits e width height)
       → (blockOf f g .high + 1 - blockOf f g .low) * (blockOf f g .right + 1 - blockOf f g .left) ≤ (b + 1) * (a + 1)
   unfolding blockOf

@@ -1,5 +1,5 @@
 -- The steps by which `highest_in` goes through a run, sixteen triangles at a time, and what `locate` says of it. Assumes nothing.
-use mathlib.Core.Path.{_≡_, refl, sym, ap, _∙_, subst}
+use mathlib.Core.Path.{_≡_, sym, ap, _∙_, subst}
 use mathlib.Core.Logic.{_⊎_, ⊎-elim}
 use mathlib.Core.Bool.{Bool, true, false, _&&_}
 use mathlib.Core.List.{List}
@@ -24,14 +24,15 @@ use Rattle.lookup.specs.declared.mesh.Best.{Best}
 use Rattle.lookup.specs.declared.mesh.Best.the-variants.{At, Nothing}
 use Rattle.lookup.specs.declared.mesh.Weights.{Weights}
 use Rattle.lookup.specs.declared.mesh.Peak.{Peak}
-use Rattle.lookup.specs.Mesh.{present, cornersOf, cornerOf, triangles}
+use Rattle.lookup.specs.Mesh.{present, cornersOf, triangles}
 use Rattle.lookup.specs.Cover.{slack, covers, heightOf, weightsOf, weightsAt, detOf, overA, weightA, weightB, insideOf, liftOf}
 use Rattle.lookup.specs.Plain.{scanOf, higherOf, entryOf}
 use Rattle.lookup.specs.Consult.{entryFault, wordAt, Place, nowhere}
 use Rattle.lookup.specs.Steps.{Runs, Started}
-use Rattle.lookup.specs.Sixteen.{turnOf, groundAt, Over, Grounded, Held, AllHeld, Low, AllLow, Passing, AllThere, Weighed, Weighs, Poised, HitOf}
+use Rattle.lookup.specs.Sixteen.{turnOf, groundAt, Over, Grounded, Held, AllHeld, Low, AllLow, Weighed, Weighs, Poised, HitOf}
 use Rattle.lookup.specs.Laws.Heads.{entry-none, entry-step}
 use Rattle.lookup.specs.Laws.Plain.{present-below}
+use Rattle.lookup.specs.Laws.Parts.{both}
 use Rattle.lookup.proofs.Turns.{there, missing, weights-are}
 
 -- what holds of each number below n, and of n, holds of each below suc n
@@ -158,11 +159,6 @@ pass-next vs is x y best seq i j e o n = rw (n, o) e
 
 -- ---- the run
 
-both-true : (p q : Bool) → (p && q) ≡ true → (p ≡ true) × (q ≡ true)
-both-true true true e = (refl, refl)
-both-true true false e = absurd (T-of e)
-both-true false q e = absurd (T-of e)
-
 pub hit-step : (vs : List Float) (is : List ℕ) (x y : Float) (run : List ℕ) (i n : ℕ) {best next : Best} {whole part all : Bool} {low : List Float}
     → HitOf vs is x y run i best whole
     → Weighed vs is x y run i n low part
@@ -174,7 +170,7 @@ hit-step vs is x y run i n {whole = whole} {part = part} h w e s =
       found = s;
       there =
           λ z k l.
-          let b = both-true whole part (sym e ∙ z) in
+          let b = both whole part (sym e ∙ z) in
           go (b .0) (b .1) k l (decLt k i);
     }
   where

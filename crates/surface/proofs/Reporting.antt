@@ -20,7 +20,7 @@ use Rattle.shape.specs.Laws.Gather.{least-le}
 use Rattle.shape.specs.Laws.Memory.{put-front, put-length}
 use Rattle.lookup.specs.declared.grid.Built.{Built}
 use Rattle.lookup.specs.declared.grid.Built.the-variants as built
-use Rattle.lookup.specs.Index.{buildOf, answerTo, readBuilt, indexWords}
+use Rattle.lookup.specs.Index.{buildOf, roomFault, answerTo, readBuilt, indexWords}
 use Rattle.lookup.specs.Laws.Limits.{judged}
 use Rattle.surface.specs.declared.held.Sizes.{Sizes}
 use Rattle.surface.specs.declared.file.Copied.{Copied}
@@ -79,7 +79,7 @@ module _
     built-words z = rw (← answer, z)
 
     pub place-small : {r : Refusal} → b ≡ built.Refused r → placeOf r < 2 ^ 32
-    unfolding answerTo readBuilt
+    unfolding answerTo roomFault readBuilt
     place-small {r} z =
         let k = length (indexIn ws) in
         let q = (rw z at answer) ∙ build-fine ws (u .few) in

@@ -22,7 +22,7 @@ use Rattle.lookup.specs.Mesh.{triangles}
 use Rattle.lookup.specs.Box.{inBox}
 use Rattle.lookup.specs.Plain.{entryOf, gives, none, plainOf, answerOf}
 use Rattle.lookup.specs.Winner.{Covers, height, normal, Wins, NoNan}
-use Rattle.lookup.specs.Index.{indexWords, buildOf, answerTo, candidatesOf}
+use Rattle.lookup.specs.Index.{indexWords, buildOf, roomFault, answerTo, candidatesOf}
 use Rattle.lookup.specs.Consult.{Place, runIn, consultOf}
 use Rattle.lookup.specs.Sampler.{laneOf, Sample, hit, miss, lookupIn, sampleOf, sampleIn, onward, topFault, topOf}
 use Rattle.lookup.specs.Demand3.{BuiltFrom, NamesLane, Demand3}
@@ -49,12 +49,12 @@ unfolding buildOf answerTo
 size-is m room n e =
     let p = judged (meshFault m) (answerTo (indexWords (m .vertices) (m .indices)) room) n e .1 in
     let k = length (indexWords (m .vertices) (m .indices)) in
-    let q = judged (refuse (ltb 4194304 k) 1 4194304 (refuse (ltb room k) 3 k fine)) (taken k) n p .1 in
+    let q = judged (roomFault (indexWords (m .vertices) (m .indices)) room) (taken k) n p .1 in
     sym (one-taken k n q)
 
 -- which are within the limit
 few-words : (m : Mesh) (room n : ℕ) → buildOf m room ≡ taken n → n ≤ 4194304
-unfolding buildOf answerTo refuse
+unfolding buildOf answerTo roomFault refuse
 few-words m room n e =
     let p = judged (meshFault m) (answerTo (indexWords (m .vertices) (m .indices)) room) n e .1 in
     let k = length (indexWords (m .vertices) (m .indices)) in

@@ -1,7 +1,7 @@
 -- What `consult` finds in any words: the tests of the head, the spot of a point, the entries of a run. Assumes nothing.
 use mathlib.Core.Path.{_≡_, refl, sym, ap, _∙_}
 use mathlib.Core.Logic.{_⊎_, ⊎-elim}
-use mathlib.Core.Bool.{Bool, true, false, not, cond, _&&_, _||_, true≢false}
+use mathlib.Core.Bool.{Bool, true, false, not, cond, _&&_, _||_}
 use mathlib.Core.List.{List}
 use Prim.Native.Nat.{ℕ, zero, suc, _+_, _-_, _*_, _≤_, _<_}
 use native.Mathlib.Nat.{mul-le-mul, eq-or-lt-of-le, le-of-suc-le-suc}
@@ -17,6 +17,7 @@ use Rattle.shape.specs.Refusal.{Fault, fine, fault, refuse, Answer, taken, refu
 use Rattle.lookup.specs.Consult.{wordAt, floatAt, sides, declares, headFault, inside, cellAt, orElse, entryFault, startAt, firstAt, startFault, Place, nowhere, run, runOf, consultOf}
 use Rattle.lookup.specs.Steps.{Sided, spotOf}
 use Rattle.lookup.specs.declared.grid.Spot.the-variants.{Cell, Outside}
+use Rattle.lookup.specs.Laws.Parts.{both}
 
 -- a test that lets a call through
 pub passed : (b : Bool) (n p : ℕ) (a : Fault) → cond b (fault n p) a ≡ fine → (b ≡ false) × (a ≡ fine)
@@ -213,10 +214,6 @@ sides-some a b n e =
     let v = both (leb 1 b) (leb b 1024) (p .1) in
     (leb-true 1 a (u .0), leb-true a 1024 (u .1), leb-true 1 b (v .0), leb-true b 1024 (v .1))
   where
-    both : (a b : Bool) → (a && b) ≡ true → (a ≡ true) × (b ≡ true)
-    both true b e = (refl, e)
-    both false b e = absurd (true≢false (sym e))
-
     or-right : (a b : Bool) → a ≡ false → (a || b) ≡ true → b ≡ true
     or-right a b e h = rw e at h
 

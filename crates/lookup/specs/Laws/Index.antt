@@ -23,7 +23,7 @@ use Rattle.lookup.specs.Frame.{extentOf, boxesOf, frameOf}
 use Rattle.lookup.specs.Index.{blockOf, blocksOf, holds, members, start, cellWords, headOf, gridWords, noWords, wordsOver, indexWords, cellIn, candidatesIn, candidatesOver, candidatesOf, buildOf}
 use Rattle.lookup.specs.Consult.{wordAt, floatAt, headFault, inside, cellAt, entryFault, Place, nowhere, run, runIn, runOf, consultOf}
 use Rattle.lookup.specs.Steps.{Framed}
-use Rattle.lookup.specs.Laws.Parts.{start-mono, start-suc}
+use Rattle.lookup.specs.Laws.Parts.{both, start-mono, start-suc}
 use Rattle.lookup.specs.Laws.Cells.{holds-at}
 use Rattle.lookup.specs.Laws.Frames.{framed, inside-of}
 use Rattle.lookup.specs.Laws.Reading.{length-index, index-start, index-run, Stands, run-of, run-holds, run-rises}
@@ -220,10 +220,6 @@ module _ (vs : List Float) (is : List ℕ) (x y : Float) where
   candidates-are i k = run-or-none (λ (o : List ℕ). i < length o → getD o i 0 < triangles is) (λ (z : i < 0). absurd (not-suc-le-zero z)) (λ h c l. run-of h c (triangles is) i l .0) k
 
 -- ---- a triangle whose grown box holds the point
-
-both : (a b : Bool) → (a && b) ≡ true → (a ≡ true) × (b ≡ true)
-both true b e = (refl, e)
-both false b e = absurd (true≢false (sym e))
 
 record Within (b : Bounds) (x y : Float) : Type 0 where
   left : T (le (b .«min_x») x)

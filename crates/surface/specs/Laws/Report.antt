@@ -13,7 +13,7 @@ use Rattle.shape.specs.Gather.{gather, any}
 use Rattle.shape.specs.Lists.{longer, uneven, meshFault}
 use Rattle.shape.specs.Refusal.{Fault, fine, fault, refuse, Answer, taken, refused, judge, leaves}
 use Rattle.shape.specs.Laws.Gather.{gather-most}
-use Rattle.lookup.specs.Index.{candidatesOf, buildOf, answerTo}
+use Rattle.lookup.specs.Index.{candidatesOf, buildOf, roomFault, answerTo}
 use Rattle.lookup.specs.Demand3.{BuiltFrom}
 use Rattle.lookup.specs.Sampler.{Sample, hit, miss, sampleIn, topOf}
 use Rattle.lookup.specs.Laws.Demand3.{top-taken, words-fit}
@@ -116,7 +116,7 @@ module _ (k : ℕ) where
 
 module _ (ws : List ℕ) (few : length ws ≤ 16384) {n : ℕ} (t : buildOf (meshIn ws) 16384 ≡ taken n) where
   pub built-size : n ≡ length (indexIn ws)
-  unfolding answerTo
+  unfolding answerTo roomFault
   built-size = let k = length (indexIn ws) in size-taken k (ltb 4194304 k) (ltb 16384 k) n (sym t ∙ build-fine ws few)
 
   built-from : (before : List ℕ) → length before ≡ 16384 → BuiltFrom (meshIn ws) (indexIn ws)
