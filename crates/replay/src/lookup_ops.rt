@@ -1,5 +1,7 @@
 // The operations of the lookup layer. A case gives the four lists of a mesh; then the points asked, or
-// the room for an index, or the words of one. The answer to each point has the same number of words.
+// the room for an index, or the words of one and the points. The answer to each point has the same number
+// of words. Where all points are asked in one call, the room for their records stands behind them, and the
+// answer is that of a call that writes.
 use crate::lent::BLANK_WORD;
 use crate::lent::front;
 use crate::lent::list_at;
@@ -17,7 +19,9 @@ use lookup::mesh::Answer;
 use lookup::mesh::height_at;
 use lookup::sampler::Lane;
 use lookup::sampler::Sampled;
+use lookup::sampler::Sampling;
 use lookup::sampler::top;
+use lookup::sampler::tops;
 use rounding::bits::bits32;
 use shape::lists::part;
 use shape::refusal::Refusal;
@@ -136,6 +140,89 @@ fn samples(
     at
 }
 
+fn put_sampling(made: &mut [u32], s: Sampling) -> usize {
+    match s {
+        Sampling::Count(n) => {
+            put(made, 0, 0);
+            put_number(made, 1, n)
+        }
+        Sampling::Refused(r) => put_refusal(made, r),
+    }
+}
+
+fn records_into(
+    vertices: &[f32],
+    normals: &[f32],
+    indices: &[u32],
+    spans: &[u32],
+    index: &[u32],
+    points: &[f32],
+    records: &mut [u32],
+    made: &mut [u32],
+) -> usize {
+    let s = tops(vertices, normals, indices, spans, index, points, records);
+    let k = put_sampling(made, s);
+    put_words(made, k, records)
+}
+
+// All points in one call. Word `at` gives the room for the records.
+fn records_case(
+    given: &[u32],
+    at: usize,
+    vertices: &[f32],
+    normals: &[f32],
+    indices: &[u32],
+    spans: &[u32],
+    index: &[u32],
+    points: &[f32],
+    made: &mut [u32],
+) -> usize {
+    let mut records = [BLANK_WORD; 1040];
+    let room = number(given, at);
+    if room > 1040 {
+        return 0;
+    }
+    records_into(
+        vertices,
+        normals,
+        indices,
+        spans,
+        index,
+        points,
+        &mut records[..room],
+        made,
+    )
+}
+
+// The points asked one by one, or all in one call, as the operation says.
+fn asked_of(
+    op: u32,
+    given: &[u32],
+    at: usize,
+    vertices: &[f32],
+    normals: &[f32],
+    indices: &[u32],
+    spans: &[u32],
+    index: &[u32],
+    points: &[f32],
+    made: &mut [u32],
+) -> usize {
+    if op < 43 {
+        return samples(vertices, normals, indices, spans, index, points, made);
+    }
+    records_case(
+        given,
+        at,
+        vertices,
+        normals,
+        indices,
+        spans,
+        index,
+        points,
+        made,
+    )
+}
+
 // ---- what a case gives after the mesh, from word `at` on
 
 fn plain_case(
@@ -206,6 +293,7 @@ fn words(b: Built) -> usize {
 
 // The points are asked of the index that is built of the mesh.
 fn indexed_case(
+    op: u32,
     given: &[u32],
     at: usize,
     vertices: &[f32],
@@ -223,11 +311,23 @@ fn indexed_case(
     let b = build(vertices, normals, indices, spans, &mut index);
     let asked = part(&points, 0, p.length);
     let used = front(&index, words(b));
-    samples(vertices, normals, indices, spans, used, asked, made)
+    asked_of(
+        op,
+        given,
+        p.next,
+        vertices,
+        normals,
+        indices,
+        spans,
+        used,
+        asked,
+        made,
+    )
 }
 
 // The points are asked of the words that the case gives for an index.
 fn words_case(
+    op: u32,
     given: &[u32],
     at: usize,
     vertices: &[f32],
@@ -248,7 +348,18 @@ fn words_case(
     }
     let asked = part(&points, 0, p.length);
     let lent = front(&index, w.length);
-    samples(vertices, normals, indices, spans, lent, asked, made)
+    asked_of(
+        op,
+        given,
+        p.next,
+        vertices,
+        normals,
+        indices,
+        spans,
+        lent,
+        asked,
+        made,
+    )
 }
 
 fn on_mesh(
@@ -264,8 +375,8 @@ fn on_mesh(
     match op {
         38 => plain_case(given, at, vertices, normals, indices, spans, made),
         39 => build_case(given, at, vertices, normals, indices, spans, made),
-        40 => indexed_case(given, at, vertices, normals, indices, spans, made),
-        _ => words_case(given, at, vertices, normals, indices, spans, made),
+        40 | 43 => indexed_case(op, given, at, vertices, normals, indices, spans, made),
+        _ => words_case(op, given, at, vertices, normals, indices, spans, made),
     }
 }
 

@@ -98,9 +98,13 @@ fn shape_name(k: u32) {
     word_of(b"ring ear_clip junction_mesh surface_mesh validate", k - 6);
 }
 
-// The operations of the lookup layer that the oracle has, and of the surface file.
+// The operations of the lookup layer that the oracle has, and of the surface file; then all points asked
+// in one call, and the case whose stored answer is wrong on purpose.
 fn lookup_name(k: u32) {
-    word_of(b"height_at sampler indexed lookup_words probes", k);
+    word_of(
+        b"height_at sampler indexed lookup_words probes tops tops_words planted",
+        k,
+    );
 }
 
 // Writes the name of an operation.
@@ -109,14 +113,14 @@ pub fn name(op: u32) {
         0..=19 => rounding_name(op),
         20..=26 => vector_name(op - 20),
         27..=37 => shape_name(op - 27),
-        38..=42 => lookup_name(op - 38),
+        38..=45 => lookup_name(op - 38),
         100..=112 => check_name(op - 100),
         200..=214 => vector_check_name(op - 200),
         327..=337 => {
             shape_name(op - 327);
             io::write_all(STDOUT_FILENO, b" at its limits");
         }
-        338..=341 => {
+        338..=344 => {
             lookup_name(op - 338);
             io::write_all(STDOUT_FILENO, b" at its limits");
         }

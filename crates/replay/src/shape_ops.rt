@@ -21,7 +21,7 @@ fn call(op: u32, given: &[u32], made: &mut [u32]) -> usize {
         35 => junction_ops::junction_case(given, made),
         36 => mesh_ops::surface_case(given, made),
         37 => verdict_ops::validate_case(given, made),
-        38..=41 => lookup_ops::lookup_case(op, given, made),
+        38..=41 | 43..=45 => lookup_ops::lookup_case(op, given, made),
         42 => probe_ops::probe_case(given, made),
         _ => 0,
     }
