@@ -92,7 +92,7 @@ fn either(a: bool, b: bool) -> bool
     if a { true } else { b }
 }
 
-// Word j of record k, in a list of records of `width` words, where no product can pass a word's range.
+// Word j of record k, in a list of records of `width` words, for numbers whose product fits.
 fn near_word(ws: &[u32], width: usize, k: usize, j: usize) -> usize
     requires { ⌜ (width < 16) × (k < 2 ^ 58) × (j < 16) ⌝ }
     ensures { λ r. ⌜ (r ≡ wordOf width (now (ws .entry)) k j) × (r < 2 ^ 32) ⌝ }
@@ -100,7 +100,7 @@ fn near_word(ws: &[u32], width: usize, k: usize, j: usize) -> usize
     word_at(ws, width * k + j)
 }
 
-// The same for any numbers: what would lie past the list is told by a division.
+// The same for any numbers: a division tells, before anything is multiplied, what lies past the list.
 fn far_word(ws: &[u32], width: usize, k: usize, j: usize) -> usize
     ensures { λ r. ⌜ (r ≡ wordOf width (now (ws .entry)) k j) × (r < 2 ^ 32) ⌝ }
 {
@@ -117,8 +117,8 @@ fn far_word(ws: &[u32], width: usize, k: usize, j: usize) -> usize
     word_at(ws, width * k + j)
 }
 
-// Word j of record k, in a list of records of `width` words, 0 past its end. Records as they are in use
-// need no division.
+// Word j of record k, in a list of records of `width` words, 0 past its end. Only numbers far past any
+// list in use cost a division.
 pub fn record_word(ws: &[u32], width: usize, k: usize, j: usize) -> usize
     ensures { λ r. ⌜ (r ≡ wordOf width (now (ws .entry)) k j) × (r < 2 ^ 32) ⌝ }
 {
