@@ -7,6 +7,7 @@ use Prim.Native.Nat.{ℕ, zero, suc, _-_, _≤_}
 use native.Mathlib.Omega.{arith}
 use borrow.Author.Tests.{le-ltb}
 use lib.Dec.{eqb}
+use lib.ListN.{length}
 use lib.IntN.{ℤ, pos, negsuc, sucℤ, predℤ}
 use lib.Ieee.{Float, binary64, add, sub, mul, div, neg, lt, le, eq, isNan, ofBits, ofInt, toBits, toSigned}
 use Rattle.rounding.specs.Whole.{wholeOf}
@@ -55,7 +56,7 @@ rows = 0 ∷ 0 ∷ 0 ∷ 1 ∷ 0 ∷ 0 ∷ 0 ∷ 0 ∷ 1 ∷ 2 ∷ 0 ∷ 0 ∷ [
 asked : Float → Float → Answer Spot
 asked s t = heightAnswer grid rows (ten ∷ ten ∷ []) [] s t
 
--- (5, 5) gives 5; (10, 10) gives 10; (5, -5) none; (-0.000001, 5) gives 5; (-0.00002, 5) none; one row alone: none (for all points: `one-row` below)
+-- (5, 5) gives 5; (10, 10) gives 10; (5, -5) none; (-0.000001, 5) gives 5; (-0.00002, 5) none; one row alone, at one point: none (for all: `one-row` below)
 pub heightCases : List Bool
 heightCases =
     gives (asked five five) (At five)
@@ -141,10 +142,15 @@ module _ (rows : List ℕ) (left right : List Float) (one : rowCount rows ≡ 1)
       same-either-way (within 0d u (count (rowCount rows - 1))) (cond (within (neg w) v w) (onGrid (valueOf rows left right) u v) Missing)
       (same-either-way (within (neg w) v w) (onGrid (valueOf rows left right) u v) (grid-none u v))
 
-  pub one-row : (g : ElevationGrid) (s t : Float) → heightOf g rows left right s t ≡ Missing
+  height-none : (g : ElevationGrid) (s t : Float) → heightOf g rows left right s t ≡ Missing
   unfolding heightOf
-  one-row g s t =
+  height-none g s t =
       let u = snapOf ((s ⊟ g .start) ⧄ g .spacing) in
       let v = snapOf (t ⧄ g .spacing) in
       same-after (isNan (g .spacing) || le (g .spacing) 0d) (cond (eqb (rowCount rows) 0) Missing (coordsOf rows left right u v))
       (same-after (eqb (rowCount rows) 0) (coordsOf rows left right u v) (coords-none u v))
+
+  -- the call's answer: what is wrong with the lists, or none
+  pub one-row : (g : ElevationGrid) (s t : Float) → heightAnswer g rows left right s t ≡ judge (gridFault rows (length left) (length right)) (taken Missing)
+  unfolding heightAnswer
+  one-row g s t = rw (height-none g s t)

@@ -3,29 +3,49 @@
 use mathlib.Core.Path.{_≡_, refl}
 use mathlib.Core.Bool.{Bool, true, false}
 use mathlib.Core.List.{List, [], _∷_}
+use Prim.Native.Nat.{ℕ, _*_}
 use lib.Dec.{eqb}
-use lib.Ieee.{Float, inf, binary64, ofBits, ofFields, odd, sub, mul, add, div, neg, le, lt, isNan, sum, round, units, span, climb, size, toUnsigned}
+use lib.Ieee.{Float, binary64, ofBits, ofFields, odd, sub, mul, add, div, neg, le, lt, isNan, sum, round, units, span, climb, size, toUnsigned}
 use Rattle.rounding.specs.Root as root
 use Rattle.rounding.specs.Whole as whole
 use Rattle.rounding.specs.Extremes as extremes
 use Rattle.vector.specs.Coords as coords
+use Rattle.shape.specs.Double.{0d, 1d}
 use Rattle.shape.specs.Gather.{gather, any, least}
-use Rattle.shape.specs.Lists.{pointAt}
+use Rattle.shape.specs.Lists.{pointAt, longer, uneven}
+use Rattle.shape.specs.Refusal.{Answer, taken, refused, refuse, judge}
+use Rattle.shape.specs.Elevation.{gridLong, gridRagged}
 use Rattle.shape.specs.Ears as ears
 use Rattle.shape.specs.Ears.{earsOf}
 use Rattle.shape.specs.CaseTests.{all}
 use Rattle.shape.specs.CasesEars.{square}
 use Rattle.shape.specs.JunctionMesh as mesh
-use Rattle.shape.specs.JunctionMesh.{vertexCount}
+use Rattle.shape.specs.JunctionMesh.{ground, groundResult, groundAnswer}
+use Rattle.shape.specs.declared.elevation.ElevationGrid.{ElevationGrid}
+use Rattle.shape.specs.declared.junction.JunctionGrid.{JunctionGrid}
+use Rattle.shape.specs.declared.junction.JunctionGrid.the-variants.{Absent, Present}
 
 -- 4, as a double
 abbrev 4d : Float
 4d = ofBits binary64 0x4010_0000_0000_0000
 
--- with spacing 4 the square has 24 vertices, with no grid 6
-abbrev pub junctionCases : List Bool
-junctionCases = eqb (vertexCount 4d square (earsOf square)) 24 ∷ eqb (vertexCount (inf false) square (earsOf square)) 6 ∷ []
+-- a grid of spacing 4; it has no rows, so that every height is missing
+grid : ElevationGrid
+grid = record { «origin_x» = 0d; «origin_y» = 0d; sin = 0d; cos = 1d; start = 0d; spacing = 4d }
+
+-- the call is taken, with that many vertices
+makes : Answer ℕ → ℕ → Bool
+makes (taken a) n = eqb a n
+makes (refused number place) n = false
+
+-- the square's mesh, with room for just so many vertices, normals and indices
+abbrev meshed : JunctionGrid → ℕ → Answer ℕ
+meshed g room = groundAnswer (ground square g [] [] []) (3 * room) (3 * room) room
+
+-- "With spacing 4 that ring has 24 vertices, with no grid 6."
+pub junctionCases : List Bool
+junctionCases = makes (meshed (Present grid) 24) 24 ∷ makes (meshed Absent 6) 6 ∷ []
 
 pub junction-cases : all junctionCases ≡ true
-unfolding ofBits ofFields odd sub mul add div neg le lt isNan sum round units span climb size toUnsigned root.sqrtOf root.rootOf whole.wholeOf whole.wholeBy extremes.first extremes.maxOf extremes.clampOf coords.pointSub coords.dotOf coords.lengthSquaredOf coords.lengthOf coords.distanceOf gather any pointAt ears.cross ears.inside ears.turnsLeft ears.blocks ears.earOf ears.isEar least ears.firstEar ears.earAt ears.without ears.lastEar ears.cutEars ears.upTo earsOf mesh.longestOf mesh.partsOf mesh.earCut mesh.sumOf mesh.verticesOf vertexCount all
+unfolding ofBits ofFields odd sub mul add div neg le lt isNan sum round units span climb size toUnsigned root.sqrtOf root.rootOf whole.wholeOf whole.wholeBy extremes.first extremes.maxOf extremes.clampOf coords.pointSub coords.dotOf coords.lengthSquaredOf coords.lengthOf coords.distanceOf gather any pointAt longer uneven gridLong gridRagged refuse judge ears.cross ears.inside ears.turnsLeft ears.blocks ears.earOf ears.isEar least ears.firstEar ears.earAt ears.without ears.lastEar ears.cutEars ears.upTo earsOf mesh.longestOf mesh.partsOf mesh.earCut mesh.cornersOf mesh.cellOf mesh.rowOf mesh.splitOf mesh.earMesh mesh.earsMesh mesh.groundVertices mesh.meshVertices mesh.groundFault mesh.groundInput mesh.stepOf groundResult groundAnswer grid makes junctionCases all
 junction-cases = refl

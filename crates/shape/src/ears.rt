@@ -44,14 +44,14 @@ fn is_inside(a: Point, b: Point, c: Point, p: Point) -> bool
 
 // ---- the points left, by their numbers in the ring
 
-pub fn wide(i: u32) -> usize
+pub(crate) fn wide(i: u32) -> usize
     ensures { λ r. ⌜ r ≡ i ⌝ }
 {
     i as usize
 }
 
 // Point i of the ring.
-pub fn point(ring: &[f32], i: usize) -> Point
+pub(crate) fn point(ring: &[f32], i: usize) -> Point
     requires { ⌜ 3 * i + 2 < length (now ring) ⌝ }
     ensures { λ r. ⌜ r ≡ pointAt (now (ring .entry)) i ⌝ }
 {
@@ -166,7 +166,7 @@ fn first_ear(ring: &[f32], left: &[u32]) -> usize
 // ---- clipping
 
 // The numbers below n, in order.
-pub fn count_up(left: &mut [u32], n: usize)
+pub(crate) fn count_up(left: &mut [u32], n: usize)
     requires { ⌜ (n ≤ length (now left)) × (n ≤ 65536) ⌝ }
     ensures { λ r. ⌜ Put (now (left .entry)) (now (left .exit)) 0 (upTo n) n ⌝ }
 {
@@ -258,7 +258,7 @@ fn cut_all(ring: &[f32], left: &mut [u32], points: usize, ears: &mut [u32]) -> u
 }
 
 // The ears of a ring at the front of `ears`, and how many numbers they are.
-pub fn clip(ring: &[f32], ears: &mut [u32]) -> usize
+pub(crate) fn clip(ring: &[f32], ears: &mut [u32]) -> usize
     requires { ⌜ (length (now ring) ≤ 3 * 1024) × (length (now ring) ≤ length (now ears)) ⌝ }
     ensures { λ r. ⌜ Put (now (ears .entry)) (now (ears .exit)) 0 (earsOf (now (ring .entry))) r ⌝ }
 {

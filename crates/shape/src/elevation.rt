@@ -504,7 +504,7 @@ fn between(lo: f64, x: f64, hi: f64) -> bool
 
 // The height at (s, t) along and to the left of the reference line, in lists that are not faulty.
 // `most` is their longest side, as `survey` finds it.
-pub fn height_in(
+pub(crate) fn height_in(
     grid: ElevationGrid,
     rows: &[u32],
     left: &[f64],
@@ -636,7 +636,7 @@ fn fault(rows: &[u32]) -> Finding
 
 // Looks through the rows. `left` and `right` are the lengths of the lists of heights. What is at fault
 // is only searched for if anything is.
-pub fn survey(rows: &[u32], left: usize, right: usize) -> Finding
+pub(crate) fn survey(rows: &[u32], left: usize, right: usize) -> Finding
     ensures { λ r. ⌜ r ≡ findingOf (now (rows .entry)) left right ⌝ }
 {
     if 6 * 1024 < rows.len() {

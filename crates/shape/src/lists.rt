@@ -24,7 +24,7 @@ pub fn word_at(xs: &[u32], i: usize) -> usize
 }
 
 // Point i of a list of coordinates; the origin where the list does not hold it whole.
-pub fn point_at(xs: &[f32], i: usize) -> Point
+pub(crate) fn point_at(xs: &[f32], i: usize) -> Point
     requires { ⌜ i < 2 ^ 62 ⌝ }
     ensures { λ r. ⌜ r ≡ pointAt (now (xs .entry)) i ⌝ }
 {
@@ -45,11 +45,10 @@ pub fn point_at(xs: &[f32], i: usize) -> Point
 
 // Vector i of a list of coordinates; zero where the list does not hold it whole.
 pub fn vector_at(xs: &[f32], i: usize) -> Vector
-    requires { ⌜ i < 2 ^ 62 ⌝ }
     ensures { λ r. ⌜ r ≡ vectorAt (now (xs .entry)) i ⌝ }
 {
-    let at = 3 * i;
-    if at + 2 < xs.len() {
+    if i < xs.len() / 3 {
+        let at = 3 * i;
         return Vector {
             x: xs[at],
             y: xs[at + 1],
@@ -93,12 +92,44 @@ fn either(a: bool, b: bool) -> bool
     if a { true } else { b }
 }
 
-// Word j of record k, in a list of records of `width` words.
-pub fn record_word(ws: &[u32], width: usize, k: usize, j: usize) -> usize
+// Word j of record k, in a list of records of `width` words, for numbers whose product fits.
+fn near_word(ws: &[u32], width: usize, k: usize, j: usize) -> usize
     requires { ⌜ (width < 16) × (k < 2 ^ 58) × (j < 16) ⌝ }
     ensures { λ r. ⌜ (r ≡ wordOf width (now (ws .entry)) k j) × (r < 2 ^ 32) ⌝ }
 {
     word_at(ws, width * k + j)
+}
+
+// The same for any numbers: a division tells, before anything is multiplied, what lies past the list.
+fn far_word(ws: &[u32], width: usize, k: usize, j: usize) -> usize
+    ensures { λ r. ⌜ (r ≡ wordOf width (now (ws .entry)) k j) × (r < 2 ^ 32) ⌝ }
+{
+    let n = ws.len();
+    if n <= j {
+        return 0;
+    }
+    if k == 0 {
+        return word_at(ws, j);
+    }
+    if n / k < width {
+        return 0;
+    }
+    word_at(ws, width * k + j)
+}
+
+// Word j of record k, in a list of records of `width` words, 0 past its end. Only numbers far past any
+// list in use cost a division.
+pub fn record_word(ws: &[u32], width: usize, k: usize, j: usize) -> usize
+    ensures { λ r. ⌜ (r ≡ wordOf width (now (ws .entry)) k j) × (r < 2 ^ 32) ⌝ }
+{
+    if width < 16 {
+        if k < 0x400_0000_0000_0000 {
+            if j < 16 {
+                return near_word(ws, width, k, j);
+            }
+        }
+    }
+    far_word(ws, width, k, j)
 }
 
 // Where the run of the record before k ended, 0 for the first record. A run's start is word `a` of its
@@ -110,7 +141,7 @@ fn last_end(ws: &[u32], width: usize, a: usize, k: usize) -> usize
     if k == 0 {
         return 0;
     }
-    record_word(ws, width, k - 1, a + 1)
+    near_word(ws, width, k - 1, a + 1)
 }
 
 // Is the run of record k ragged, for a list of n elements?
@@ -118,8 +149,8 @@ fn run_bad(ws: &[u32], width: usize, a: usize, n: usize, k: usize) -> bool
     requires { ⌜ (width < 16) × (k < 2 ^ 58) × (a < 15) ⌝ }
     ensures { λ r. ⌜ r ≡ runBad width a (now (ws .entry)) n k ⌝ }
 {
-    let start = record_word(ws, width, k, a);
-    let end = record_word(ws, width, k, a + 1);
+    let start = near_word(ws, width, k, a);
+    let end = near_word(ws, width, k, a + 1);
     let last = last_end(ws, width, a, k);
     either(either(end < start, start < last), n < end)
 }
@@ -129,13 +160,13 @@ fn run_long(ws: &[u32], width: usize, a: usize, limit: usize, k: usize) -> bool
     requires { ⌜ (width < 16) × (k < 2 ^ 58) × (a < 15) × (limit < 2 ^ 32) ⌝ }
     ensures { λ r. ⌜ r ≡ runLong width a (now (ws .entry)) limit k ⌝ }
 {
-    let start = record_word(ws, width, k, a);
-    let end = record_word(ws, width, k, a + 1);
+    let start = near_word(ws, width, k, a);
+    let end = near_word(ws, width, k, a + 1);
     start + limit < end
 }
 
 // Is any of the first m runs ragged?
-pub fn any_bad(ws: &[u32], width: usize, a: usize, n: usize, m: usize) -> bool
+pub(crate) fn any_bad(ws: &[u32], width: usize, a: usize, n: usize, m: usize) -> bool
     requires { ⌜ (width < 16) × (a < 15) × (m < 2 ^ 58) ⌝ }
     ensures { λ r. ⌜ r ≡ any (runBad width a (now (ws .entry)) n) m ⌝ }
 {
@@ -149,7 +180,7 @@ pub fn any_bad(ws: &[u32], width: usize, a: usize, n: usize, m: usize) -> bool
 }
 
 // Is any of the first m runs longer than the limit?
-pub fn any_long(ws: &[u32], width: usize, a: usize, limit: usize, m: usize) -> bool
+pub(crate) fn any_long(ws: &[u32], width: usize, a: usize, limit: usize, m: usize) -> bool
     requires { ⌜ (width < 16) × (a < 15) × (limit < 2 ^ 32) × (m < 2 ^ 58) ⌝ }
     ensures { λ r. ⌜ r ≡ any (runLong width a (now (ws .entry)) limit) m ⌝ }
 {

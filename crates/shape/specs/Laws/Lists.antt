@@ -2,16 +2,16 @@
 use mathlib.Core.Path.{_≡_, refl, sym, _∙_}
 use mathlib.Core.Bool.{false, _||_}
 use mathlib.Core.List.{List, [], _∷_}
-use Prim.Native.Nat.{ℕ, zero, suc, _+_, _-_, _≤_, _<_}
+use Prim.Native.Nat.{ℕ, zero, suc, _+_, _-_, _*_, _≤_, _<_}
 use native.Mathlib.Decide.{decLt}
 use native.Mathlib.Numerals.{sub-one}
 use native.Mathlib.Omega.{arith}
 use borrow.Author.Tests.{ltb-false, lt-ltb, le-ltb}
 use lib.Dec.{ltb}
-use lib.ListN.{length, getD, take, drop, length-drop, drop-of-length-le}
+use lib.ListN.{length, getD, take, drop, length-drop, drop-of-length-le, List·getD-eq-default}
 use lib.Seq.{take-nil, take-all}
 use Rattle.shape.specs.Gather.{any}
-use Rattle.shape.specs.Lists.{startOf, endOf, lastEnd, runBad, runLong}
+use Rattle.shape.specs.Lists.{wordOf, startOf, endOf, lastEnd, runBad, runLong}
 use Rattle.shape.specs.Laws.Gather.{or-left, or-right, any-none}
 
 -- run k of a list of n: it is in order, after the last one, and within its list
@@ -51,6 +51,11 @@ far limit s e =
       | yes p ↦ lt-ltb (s + limit) e p ∙ sym (lt-ltb limit (e - s) (omega arith))
       | no p ↦ le-ltb (s + limit) e (omega arith) ∙ sym (le-ltb limit (e - s) (omega arith))
     ]
+
+-- a word past the list's end
+pub word-past : (w : ℕ) (ws : List ℕ) (k j : ℕ) → length ws ≤ w * k + j → 0 ≡ wordOf w ws k j
+unfolding wordOf
+word-past w ws k j h = sym (List·getD-eq-default ws 0 h)
 
 -- ---- the part of a list from a to e
 

@@ -1,5 +1,6 @@
 -- `lookup::sampler::lane_of` meets its contract: the span found and its start pick the case of `laneOf`. Assumes nothing.
 use native.Mathlib.Omega.{arith}
+use borrow.Author.Needs.{needs}
 use Rattle.lookup.specs.Laws.Spans.{lane-id, lane-before, lane-past}
 use Rattle.lookup.proofs.sampler.lane_of.Statement.{statement}
 use Rattle.lookup.proofs.sampler.lane_of.Tie as tie
@@ -11,10 +12,10 @@ span-past-requires : tie.Need-span-past-requires
 span-past-requires c κs = (c .before .pre .1 .0, c .before .pre .1 .1)
 
 record-word-requires : tie.Need-record-word-requires
-record-word-requires c κs = (omega arith, omega (arith, c .before .before .before .pre .1 .0, c .if1 .taken), omega arith)
+record-word-requires c κs = search needs
 
 record-word-requires-2 : tie.Need-record-word-requires-2
-record-word-requires-2 c κs = (omega arith, omega (arith, c .before .before .before .before .before .pre .1 .0, c .before .before .if1 .taken), omega arith)
+record-word-requires-2 c κs = search needs
 
 returns : tie.Need-returns
 returns c =

@@ -2,6 +2,7 @@
 use mathlib.Core.Path.{_≡_, refl, _∙_}
 use Prim.Native.Nat.{_-_, _≤_}
 use native.Mathlib.Omega.{arith}
+use borrow.Author.Needs.{needs}
 use denote.Ref.{now}
 use lib.ListN.{length}
 use Rattle.shape.specs.Outline.{solid}
@@ -19,10 +20,10 @@ loop-holds : tie.Need-loop-holds Inv-loop μ-loop
 loop-holds c = (omega arith, omega arith, refl)
 
 record-word-requires : tie.Need-record-word-requires Inv-loop μ-loop
-record-word-requires c κs = omega arith
+record-word-requires c κs = search needs
 
 record-word-requires-2 : tie.Need-record-word-requires-2 Inv-loop μ-loop
-record-word-requires-2 c κs = omega arith
+record-word-requires-2 c κs = search needs
 
 returns : tie.Need-returns Inv-loop μ-loop
 returns c = ((omega arith, omega arith, c .before .before .before .before .loop .inv .2), λ h. rw (← (c .before .before .record-word .ensures .0), ← (c .before .record-word2 .ensures .0)) (c .if1 .taken))

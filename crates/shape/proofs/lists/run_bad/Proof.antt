@@ -4,14 +4,14 @@ use borrow.Author.Needs.{needs}
 use Rattle.shape.proofs.lists.run_bad.Statement.{statement}
 use Rattle.shape.proofs.lists.run_bad.Tie as tie
 
-record-word-requires : tie.Need-record-word-requires
-record-word-requires c κs = search needs
+near-word-requires : tie.Need-near-word-requires
+near-word-requires c κs = search needs
 
-add-record-word : tie.Need-add-record-word
-add-record-word c = search needs
+add-near-word : tie.Need-add-near-word
+add-near-word c = search needs
 
-record-word-requires-2 : tie.Need-record-word-requires-2
-record-word-requires-2 c κs = search needs
+near-word-requires-2 : tie.Need-near-word-requires-2
+near-word-requires-2 c κs = search needs
 
 last-end-requires : tie.Need-last-end-requires
 last-end-requires c κs = search needs
@@ -24,15 +24,15 @@ either-requires-2 c κs = search needs
 
 returns : tie.Need-returns
 unfolding runBad
-returns c = rw (c .either2 .ensures, c .before .either .ensures, c .before .before .last-end .ensures, c .before .before .before .record-word2 .ensures .0, c .before .before .before .before .record-word .ensures .0)
+returns c = rw (c .either2 .ensures, c .before .either .ensures, c .before .before .last-end .ensures, c .before .before .before .near-word2 .ensures .0, c .before .before .before .before .near-word .ensures .0)
 
 pub run-bad-spec : {M : Type 1} → statement M
 run-bad-spec =
     tie.close
     (tie.spec
-    record-word-requires
-    add-record-word
-    record-word-requires-2
+    near-word-requires
+    add-near-word
+    near-word-requires-2
     last-end-requires
     either-requires
     either-requires-2

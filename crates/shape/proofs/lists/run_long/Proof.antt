@@ -6,23 +6,23 @@ use borrow.Author.Needs.{needs}
 use Rattle.shape.proofs.lists.run_long.Statement.{statement}
 use Rattle.shape.proofs.lists.run_long.Tie as tie
 
-record-word-requires : tie.Need-record-word-requires
-record-word-requires c κs = search needs
+near-word-requires : tie.Need-near-word-requires
+near-word-requires c κs = search needs
 
-add-record-word : tie.Need-add-record-word
-add-record-word c = search needs
+add-near-word : tie.Need-add-near-word
+add-near-word c = search needs
 
-record-word-requires-2 : tie.Need-record-word-requires-2
-record-word-requires-2 c κs = search needs
+near-word-requires-2 : tie.Need-near-word-requires-2
+near-word-requires-2 c κs = search needs
 
 add-result : tie.Need-add-result
 add-result c = search needs
 
 returns : tie.Need-returns
 unfolding runLong
-returns c = let a = c .before .before .before .args in rw (c .record-word2 .ensures .0, c .before .record-word .ensures .0) (far (a .limit) (startOf (a .width) (a .a) (now (a .ws)) (a .k)) (endOf (a .width) (a .a) (now (a .ws)) (a .k)))
+returns c = let a = c .before .before .before .args in rw (c .near-word2 .ensures .0, c .before .near-word .ensures .0) (far (a .limit) (startOf (a .width) (a .a) (now (a .ws)) (a .k)) (endOf (a .width) (a .a) (now (a .ws)) (a .k)))
 
 pub run-long-spec : {M : Type 1} → statement M
 run-long-spec =
     tie.close
-    (tie.spec record-word-requires add-record-word record-word-requires-2 add-result returns)
+    (tie.spec near-word-requires add-near-word near-word-requires-2 add-result returns)
