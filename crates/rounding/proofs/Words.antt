@@ -1,9 +1,12 @@
 -- Words and the floats that they stand for, with the format as a parameter. Assumes nothing.
-use mathlib.Core.Path.{_≡_, refl, sym, _∙_, subst}
+use mathlib.Core.Path.{_≡_, refl, sym, ap, _∙_, subst}
 use Prim.Native.Nat.{ℕ, _+_, _-_, _*_, _/_, _%_, _≤_, _<_}
 use mathlib.Core.Bool.{Bool, true, false, not}
 use lib.IntN.{pos}
-use lib.Dec.{T, lt→ltb}
+use native.Mathlib.Nat.{div-add-mod', div-eq-of-lt, mod-lt}
+use native.Mathlib.Omega.{arith}
+use borrow.Author.Tests.{lt-leb, le-leb}
+use lib.Dec.{T, not-T, leb, ltb, lt→ltb, ltb→lt, nltb→le, lit<}
 use lib.Arith.{le→nltb}
 use lib.Bits.{bitAnd, and-mask}
 use lib.Ieee.{Float, nan, inf, fin, Format, binary32, binary64, hid, ones, top, ofBits, toBits, isNan, nanBits, eq, ne}
@@ -36,6 +39,25 @@ word-of-nan f x e = subst (λ (y : Float). ones f * hid f + hid f / 2 ≡ toBits
 pub masked : (f : Format) (x : Float) → bitAnd (toBits f x) (top f - 1) ≡ toBits f x % top f
 masked binary32 x = and-mask (toBits binary32 x) 31
 masked binary64 x = and-mask (toBits binary64 x) 63
+
+-- ---- the sign, shifted out of the pattern
+
+sign-low : (f : Format) (b : ℕ) → b / top f ≡ 0 → b % top f ≡ b
+sign-low f b z = let d = div-add-mod' b (top f) in let e = ap (λ (x : ℕ). x * top f) z in omega arith
+
+top-pos : (f : Format) → 0 < top f
+top-pos binary32 = lit< tt
+top-pos binary64 = lit< tt
+
+pub plus-sign : (f : Format) (b : ℕ) → b / top f ≡ 0 → leb (top f) b ≡ false
+plus-sign f b z = lt-leb (top f) b (let e = sign-low f b z in let m = mod-lt b (top-pos f) in omega arith)
+
+pub minus-sign : (f : Format) (b : ℕ) → (b / top f ≡ 0 → ⊥) → leb (top f) b ≡ true
+minus-sign f b n = le-leb (top f) b (nltb→le b (top f) (not-T (ltb b (top f)) (λ u. n (div-eq-of-lt (ltb→lt b (top f) u)))))
+
+-- with no sign the mask changes nothing
+pub unsigned : (f : Format) (x : Float) → toBits f x / top f ≡ 0 → bitAnd (toBits f x) (top f - 1) ≡ toBits f x
+unsigned f x z = masked f x ∙ sign-low f (toBits f x) z
 
 -- ---- as the index stores a single
 
