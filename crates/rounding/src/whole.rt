@@ -64,7 +64,7 @@ fn whole32(x: f32, plus: u64, minus: u64) -> f32
     if size == 0x7f80_0000 {
         return x;
     }
-    if b < 0x8000_0000 {
+    if b >> 31 == 0 {
         f32::from_bits(whole_bits(24, 127, size as u64, plus) as u32)
     } else {
         f32::from_bits(0x8000_0000 + (whole_bits(24, 127, size as u64, minus) as u32))
@@ -101,7 +101,7 @@ fn whole64(x: f64, plus: u64, minus: u64) -> f64
     if size == 0x7ff0_0000_0000_0000 {
         return x;
     }
-    if b < 0x8000_0000_0000_0000 {
+    if b >> 63 == 0 {
         f64::from_bits(whole_bits(53, 1023, size, plus))
     } else {
         f64::from_bits(0x8000_0000_0000_0000 + whole_bits(53, 1023, size, minus))

@@ -5,13 +5,13 @@ use mathlib.Core.Bool.{Bool, true, false, not}
 use Prim.Native.Nat.{ℕ, _<_, _≤_, _-_, _*_, _%_, _^_}
 use native.Mathlib.Nat.{zero-add}
 use native.Mathlib.Omega.{arith}
-use borrow.Author.Tests.{lt-leb, le-leb}
 use lib.Dec.{T}
 use lib.Bits.{bitAnd, and-mask}
 use lib.Ieee.{Float, binary32, fits, isNan, toBits, ofBits, ones, hid, top, nanBits}
 use Rattle.rounding.specs.Steps.{Wholes, wayOf}
 use Rattle.rounding.specs.Whole.{ways}
 use Rattle.rounding.proofs.Fields.{no-nan, result-no-nan}
+use Rattle.rounding.proofs.Words.{plus-sign, minus-sign}
 use Rattle.rounding.proofs.Sign.{nan-whole, inf-whole, sized, sized-lt, signed, no-nan-bits}
 use Rattle.rounding.proofs.whole.whole32.Statement.{statement}
 use Rattle.rounding.proofs.whole.whole32.Tie as tie
@@ -70,12 +70,12 @@ returns-3 c =
     let s = c .before .before .before .before in
     let r = c .whole-bits .result in
     ap (ofBits binary32) (sym (zero-add r))
-    ∙ signed binary32 (ways (wayOf (s .args .plus)) (wayOf (s .args .minus))) (s .args .x) false r (held s) (within (c .before .before)) (lt-leb (top binary32) (toBits binary32 (s .args .x)) (c .before .if3 .taken)) (rw (masked (s .args .x)) at (c .whole-bits .ensures binary32 false refl refl))
+    ∙ signed binary32 (ways (wayOf (s .args .plus)) (wayOf (s .args .minus))) (s .args .x) false r (held s) (within (c .before .before)) (plus-sign binary32 (toBits binary32 (s .args .x)) (c .before .if3 .taken)) (rw (masked (s .args .x)) at (c .whole-bits .ensures binary32 false refl refl))
 
 returns-4 : tie.Need-returns-4
 returns-4 c =
     let s = c .before .before .before .before in
-    signed binary32 (ways (wayOf (s .args .plus)) (wayOf (s .args .minus))) (s .args .x) true (c .whole-bits2 .result) (held s) (within (c .before .before)) (le-leb (top binary32) (toBits binary32 (s .args .x)) (c .before .if3 .left)) (rw (masked (s .args .x)) at (c .whole-bits2 .ensures binary32 true refl refl))
+    signed binary32 (ways (wayOf (s .args .plus)) (wayOf (s .args .minus))) (s .args .x) true (c .whole-bits2 .result) (held s) (within (c .before .before)) (minus-sign binary32 (toBits binary32 (s .args .x)) (c .before .if3 .left)) (rw (masked (s .args .x)) at (c .whole-bits2 .ensures binary32 true refl refl))
 
 pub whole32-spec : {M : Type 1} → statement M
 whole32-spec =

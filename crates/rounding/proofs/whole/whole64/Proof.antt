@@ -5,13 +5,13 @@ use mathlib.Core.Bool.{Bool, true, false, not}
 use Prim.Native.Nat.{ℕ, _<_, _≤_, _-_, _*_, _%_, _^_}
 use native.Mathlib.Nat.{zero-add}
 use native.Mathlib.Omega.{arith}
-use borrow.Author.Tests.{lt-leb, le-leb}
 use lib.Dec.{T}
 use lib.Bits.{bitAnd, and-mask}
 use lib.Ieee.{Float, binary64, fits, isNan, toBits, ofBits, ones, hid, top, nanBits}
 use Rattle.rounding.specs.Steps.{Wholes, wayOf}
 use Rattle.rounding.specs.Whole.{ways}
 use Rattle.rounding.proofs.Fields.{no-nan, result-no-nan}
+use Rattle.rounding.proofs.Words.{plus-sign, minus-sign}
 use Rattle.rounding.proofs.Sign.{nan-whole, inf-whole, sized, sized-lt, signed, no-nan-bits}
 use Rattle.rounding.proofs.whole.whole64.Statement.{statement}
 use Rattle.rounding.proofs.whole.whole64.Tie as tie
@@ -58,12 +58,12 @@ returns-3 c =
     let s = c .before .before .before .before in
     let r = c .whole-bits .result in
     ap (ofBits binary64) (sym (zero-add r))
-    ∙ signed binary64 (ways (wayOf (s .args .plus)) (wayOf (s .args .minus))) (s .args .x) false r (held s) (within (c .before .before)) (lt-leb (top binary64) (toBits binary64 (s .args .x)) (c .before .if3 .taken)) (rw (masked (s .args .x)) at (c .whole-bits .ensures binary64 false refl refl))
+    ∙ signed binary64 (ways (wayOf (s .args .plus)) (wayOf (s .args .minus))) (s .args .x) false r (held s) (within (c .before .before)) (plus-sign binary64 (toBits binary64 (s .args .x)) (c .before .if3 .taken)) (rw (masked (s .args .x)) at (c .whole-bits .ensures binary64 false refl refl))
 
 returns-4 : tie.Need-returns-4
 returns-4 c =
     let s = c .before .before .before .before in
-    signed binary64 (ways (wayOf (s .args .plus)) (wayOf (s .args .minus))) (s .args .x) true (c .whole-bits2 .result) (held s) (within (c .before .before)) (le-leb (top binary64) (toBits binary64 (s .args .x)) (c .before .if3 .left)) (rw (masked (s .args .x)) at (c .whole-bits2 .ensures binary64 true refl refl))
+    signed binary64 (ways (wayOf (s .args .plus)) (wayOf (s .args .minus))) (s .args .x) true (c .whole-bits2 .result) (held s) (within (c .before .before)) (minus-sign binary64 (toBits binary64 (s .args .x)) (c .before .if3 .left)) (rw (masked (s .args .x)) at (c .whole-bits2 .ensures binary64 true refl refl))
 
 pub whole64-spec : {M : Type 1} → statement M
 whole64-spec =

@@ -4,12 +4,12 @@ use mathlib.Core.Bool.{Bool, true, false, not}
 use Prim.Native.Nat.{ℕ, _<_, _≤_, _+_, _-_, _*_, _%_, _^_}
 use native.Mathlib.Nat.{zero-add}
 use native.Mathlib.Omega.{arith}
-use borrow.Author.Tests.{lt-leb, le-leb}
 use lib.Dec.{T}
 use lib.Bits.{bitAnd, and-mask}
 use lib.Ieee.{Float, binary32, binary64, fits, toBits, ofBits, ones, hid, top, nanBits, div}
 use Rattle.rounding.specs.Steps.{Narrows}
 use Rattle.rounding.proofs.Fields.{no-nan}
+use Rattle.rounding.proofs.Words.{plus-sign, minus-sign}
 use Rattle.rounding.proofs.Sign.{sized, sized-lt}
 use Rattle.rounding.proofs.Narrowing.{nan-thin, inf-thin, signed-thin, no-nan-most}
 use Rattle.rounding.proofs.width.narrow.Statement.{statement}
@@ -43,7 +43,7 @@ returns-2 : tie.Need-returns-2
 unfolding ofBits
 returns-2 c =
     let s = c .before .before .before in
-    inf-thin (s .args .x) false (held s) (sym (masked (s .args .x)) ∙ c .before .if2 .taken) (lt-leb (top binary64) (toBits binary64 (s .args .x)) (c .if3 .taken))
+    inf-thin (s .args .x) false (held s) (sym (masked (s .args .x)) ∙ c .before .if2 .taken) (plus-sign binary64 (toBits binary64 (s .args .x)) (c .if3 .taken))
 
 float-from-bits-result-2 : tie.Need-float-from-bits-result-2
 unfolding nanBits
@@ -53,7 +53,7 @@ returns-3 : tie.Need-returns-3
 unfolding ofBits
 returns-3 c =
     let s = c .before .before .before in
-    inf-thin (s .args .x) true (held s) (sym (masked (s .args .x)) ∙ c .before .if2 .taken) (le-leb (top binary64) (toBits binary64 (s .args .x)) (c .if3 .left))
+    inf-thin (s .args .x) true (held s) (sym (masked (s .args .x)) ∙ c .before .if2 .taken) (minus-sign binary64 (toBits binary64 (s .args .x)) (c .if3 .left))
 
 narrow-bits-requires : tie.Need-narrow-bits-requires
 narrow-bits-requires c κs = rw (masked (c .before .before .before .args .x)) (within (c .before))
@@ -84,12 +84,12 @@ returns-4 c =
     let s = c .before .before .before .before in
     let r = c .narrow-bits .result in
     ap (ofBits binary32) (sym (zero-add r))
-    ∙ signed-thin (s .args .x) false r (held s) (within (c .before .before)) (lt-leb (top binary64) (toBits binary64 (s .args .x)) (c .before .if4 .taken)) (rw (masked (s .args .x)) at (c .narrow-bits .ensures false))
+    ∙ signed-thin (s .args .x) false r (held s) (within (c .before .before)) (plus-sign binary64 (toBits binary64 (s .args .x)) (c .before .if4 .taken)) (rw (masked (s .args .x)) at (c .narrow-bits .ensures false))
 
 returns-5 : tie.Need-returns-5
 returns-5 c =
     let s = c .before .before .before .before in
-    signed-thin (s .args .x) true (c .narrow-bits2 .result) (held s) (within (c .before .before)) (le-leb (top binary64) (toBits binary64 (s .args .x)) (c .before .if4 .left)) (rw (masked (s .args .x)) at (c .narrow-bits2 .ensures true))
+    signed-thin (s .args .x) true (c .narrow-bits2 .result) (held s) (within (c .before .before)) (minus-sign binary64 (toBits binary64 (s .args .x)) (c .before .if4 .left)) (rw (masked (s .args .x)) at (c .narrow-bits2 .ensures true))
 
 pub narrow-spec : {M : Type 1} → statement M
 narrow-spec =

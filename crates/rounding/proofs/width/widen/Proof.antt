@@ -5,13 +5,12 @@ use mathlib.Core.Bool.{true, false, not}
 use Prim.Native.Nat.{ℕ, _*_, _<_}
 use native.Mathlib.Nat.{zero-add}
 use native.Mathlib.Omega.{arith}
-use borrow.Author.Tests.{lt-leb, le-leb}
 use lib.Dec.{T}
 use lib.Ieee.{binary32, binary64, fits, toBits, ofBits, ones, hid, top, nanBits, div}
 use Rattle.rounding.specs.Laws.Order.{nan-of-differs}
 use Rattle.rounding.proofs.Fields.{no-nan}
 use Rattle.rounding.proofs.Sign.{sized, sized-lt, is-inf, no-nan-bits}
-use Rattle.rounding.proofs.Words.{masked}
+use Rattle.rounding.proofs.Words.{masked, plus-sign, minus-sign}
 use Rattle.rounding.proofs.Widening.{same-number}
 use Rattle.rounding.proofs.width.widen.Statement.{statement}
 use Rattle.rounding.proofs.width.widen.Tie as tie
@@ -41,7 +40,7 @@ returns-2 : tie.Need-returns-2
 unfolding ofBits
 returns-2 c =
     let s = c .before .before .before in
-    sym (is-inf binary32 (s .args .x) false (held s) (sym (masked binary32 (s .args .x)) ∙ c .before .if2 .taken) (lt-leb (top binary32) (toBits binary32 (s .args .x)) (c .if3 .taken)))
+    sym (is-inf binary32 (s .args .x) false (held s) (sym (masked binary32 (s .args .x)) ∙ c .before .if2 .taken) (plus-sign binary32 (toBits binary32 (s .args .x)) (c .if3 .taken)))
 
 float-from-bits-result-2 : tie.Need-float-from-bits-result-2
 unfolding nanBits
@@ -51,7 +50,7 @@ returns-3 : tie.Need-returns-3
 unfolding ofBits
 returns-3 c =
     let s = c .before .before .before in
-    sym (is-inf binary32 (s .args .x) true (held s) (sym (masked binary32 (s .args .x)) ∙ c .before .if2 .taken) (le-leb (top binary32) (toBits binary32 (s .args .x)) (c .if3 .left)))
+    sym (is-inf binary32 (s .args .x) true (held s) (sym (masked binary32 (s .args .x)) ∙ c .before .if2 .taken) (minus-sign binary32 (toBits binary32 (s .args .x)) (c .if3 .left)))
 
 cast-widen-bits : tie.Need-cast-widen-bits
 cast-widen-bits c = let l = within c in omega (arith, masked binary32 (c .before .before .args .x))
@@ -75,12 +74,12 @@ returns-4 c =
     let s = c .before .before .before .before in
     let r = c .before .widen-bits .result in
     ap (ofBits binary64) (sym (zero-add r))
-    ∙ same-number (s .args .x) false r (held s) (within (c .before .before)) (lt-leb (top binary32) (toBits binary32 (s .args .x)) (c .if4 .taken)) (rw (masked binary32 (s .args .x)) at (c .before .widen-bits .ensures))
+    ∙ same-number (s .args .x) false r (held s) (within (c .before .before)) (plus-sign binary32 (toBits binary32 (s .args .x)) (c .if4 .taken)) (rw (masked binary32 (s .args .x)) at (c .before .widen-bits .ensures))
 
 returns-5 : tie.Need-returns-5
 returns-5 c =
     let s = c .before .before .before .before in
-    same-number (s .args .x) true (c .before .widen-bits .result) (held s) (within (c .before .before)) (le-leb (top binary32) (toBits binary32 (s .args .x)) (c .if4 .left)) (rw (masked binary32 (s .args .x)) at (c .before .widen-bits .ensures))
+    same-number (s .args .x) true (c .before .widen-bits .result) (held s) (within (c .before .before)) (minus-sign binary32 (toBits binary32 (s .args .x)) (c .if4 .left)) (rw (masked binary32 (s .args .x)) at (c .before .widen-bits .ensures))
 
 pub widen-spec : {M : Type 1} → statement M
 widen-spec = tie.close (tie.spec returns float-to-bits-b float-from-bits-result returns-2 float-from-bits-result-2 returns-3 cast-widen-bits widen-bits-requires float-from-bits-result-3 add-result float-from-bits-result-4 returns-4 returns-5)
