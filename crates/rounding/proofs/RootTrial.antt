@@ -256,7 +256,7 @@ under-at f c h =
     sums : (a z h o c : ℕ) → a ≡ z * h → (z + 2) * h ≡ o → c ≤ h → a + (2 * h - c) ≡ o - c
     sums a z h o c k l n = omega arith
 
--- The patterns less than d from that of 1. (At single width d is 4,096 in `root_near_one`, and could be 5,790.)
+-- The patterns from d below that of 1 on, up to d above it. At single width `root_near_one` takes a d of 4,096.
 pub near : (f : Format) (b d : ℕ) → (d + 2) * (d + 2) ≤ 4 * hid f → one f ≤ b + d → b < one f + d → Rooted f (sqrtOf f (ofBits f b)) ((b + one f) / 2)
 near f b d small lo hi = go (ltb b (one f)) (ltb→lt b (one f)) (nltb→le b (one f))
   where

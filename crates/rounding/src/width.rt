@@ -46,17 +46,11 @@ pub fn narrow(x: f64) -> f32
     }
     let b = f64::to_bits(x);
     let size = b & 0x7fff_ffff_ffff_ffff;
+    let sign = (b >> 63) << 31;
     if size == 0x7ff0_0000_0000_0000 {
-        if b >> 63 == 0 {
-            return f32::from_bits(0x7f80_0000);
-        }
-        return f32::from_bits(0xff80_0000);
+        return f32::from_bits((sign + 0x7f80_0000) as u32);
     }
-    if b >> 63 == 0 {
-        f32::from_bits(narrow_bits(size) as u32)
-    } else {
-        f32::from_bits(0x8000_0000 + (narrow_bits(size) as u32))
-    }
+    f32::from_bits((sign + narrow_bits(size)) as u32)
 }
 
 // The bits of the double equal to the single with the bits b, both without their signs. A single
@@ -84,16 +78,9 @@ pub fn widen(x: f32) -> f64
     }
     let b = f32::to_bits(x);
     let size = b & 0x7fff_ffff;
+    let sign = ((b >> 31) as u64) << 63;
     if size == 0x7f80_0000 {
-        if b >> 31 == 0 {
-            return f64::from_bits(0x7ff0_0000_0000_0000);
-        }
-        return f64::from_bits(0xfff0_0000_0000_0000);
+        return f64::from_bits(sign + 0x7ff0_0000_0000_0000);
     }
-    let wide = widen_bits(size as u64);
-    if b >> 31 == 0 {
-        f64::from_bits(wide)
-    } else {
-        f64::from_bits(0x8000_0000_0000_0000 + wide)
-    }
+    f64::from_bits(sign + widen_bits(size as u64))
 }
