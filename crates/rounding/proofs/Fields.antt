@@ -193,10 +193,6 @@ neg-root f x t n l z =
     ∙ sqrt-neg f (b % top f / hid f) (b % hid f)
     (λ e. let k = ap (λ (y : ℕ). y * hid f) e in let q = low-part f b in let w : b % top f ≢ 0 = z in omega arith)
 
--- a pattern that is no zero's
-pub some-bits : (b m : ℕ) → (bitAnd b m ≡ 0 → ⊥) → 0 < b
-some-bits b m h = elim (eq-zero-or-pos b) [ inl z ↦ absurd (h (ap (λ (x : ℕ). bitAnd x m) z)) | inr p ↦ p ]
-
 -- ---- the result's bits
 
 pub result-no-nan : (f : Format) (r : ℕ) → r < ones f * hid f → T (not (nanBits f r))

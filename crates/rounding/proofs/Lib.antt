@@ -14,3 +14,4 @@ pub mod Words
 pub mod Choosing
 pub mod Counting
 pub mod Widening
+pub mod Nearby

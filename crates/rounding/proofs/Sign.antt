@@ -8,6 +8,7 @@ use mathlib.Core.Bool.{Bool, true, false, not, cond}
 use lib.IntN.{pos}
 use lib.Dec.{T, leb, ltb, eqb, nltb→le, le→leb}
 use lib.Arith.{le→nltb, lt→nleb, lt-of-le-ne}
+use lib.Bits.{bitAnd}
 use lib.Count.{trailingZeros}
 use lib.Pow.{pow-pos}
 use lib.Ieee.{Float, nan, inf, fin, Format, binary32, binary64, prec, emax, low, up, down, minus, odd, hid, ones, top, ofFields, ofBits, toBits, fits, isNan, nanBits, ne}
@@ -15,10 +16,11 @@ use lib.Ieee.Digits.{odd-val}
 use lib.Ieee.Fits.{down-pos, round-fits}
 use lib.Ieee.Bits.{is-true, is-false, ofBits-toBits, nanBits-is, nanBits-above}
 use lib.Ieee.Compare.{differs-from-itself}
-use Rattle.rounding.specs.Steps.{Wholes, sizeOf}
-use Rattle.rounding.specs.Whole.{Way, wholeBy, wholeOf}
+use Rattle.rounding.specs.Steps.{Wholes, sizeOf, wayOf}
+use Rattle.rounding.specs.Whole.{Way, ways, wholeBy, wholeOf}
 use Rattle.rounding.specs.Laws.Whole.{wholeBy-same}
 use Rattle.rounding.proofs.Fields.{ofBits-is, field-some, low-part, under-top}
+use Rattle.rounding.proofs.Words.{sign-bit}
 use Rattle.rounding.proofs.Cut.{expo, digs, Parts, parts}
 
 pub nan-whole : (f : Format) (w : Bool → Way) (x : Float) → ne x x ≡ true → x ≡ wholeOf f w x
@@ -107,6 +109,32 @@ signed f w x s r t l e h =
     let i : wholeOf f w x ≡ wholeBy f s (w s) (sizeOf (prec f) (sized f x)) (2 ^ low f) = ap (wholeOf f w) (finite-odd f x s t l e) ∙ whole-odd f w (prec f) s (digs f (sized f x)) (expo f (sized f x)) in
     ap (ofBits f) (sym (h .value)) ∙ ofBits-toBits f (wholeBy f s (w s) (sizeOf (prec f) (sized f x)) (2 ^ low f)) (unfold wholeBy in round-fits f s _ 1) ∙ sym i
 
+-- the same by the code's steps: the sign is masked, chooses the way, and is put back
+module _ (f : Format) (x : Float) (t : T (fits f x)) where
+  pub sign-is : (s : Bool) → leb (top f) (toBits f x) ≡ s → bitAnd (toBits f x) (top f) ≡ cond s (top f) 0
+  sign-is s k = sign-bit f x t ∙ ap (λ (y : Bool). cond y (top f) 0) k
+
+  pub signed-by : (plus minus w r : ℕ) → sized f x < ones f * hid f → w ≡ cond (leb 1 (bitAnd (toBits f x) (top f))) minus plus → ((s : Bool) → Wholes f s (wayOf w) (sized f x) r)
+      → ofBits f (bitAnd (toBits f x) (top f) + r) ≡ wholeOf f (ways (wayOf plus) (wayOf minus)) x
+  signed-by plus minus w r l e h = go (leb (top f) (toBits f x)) refl
+    where
+      chosen : (f : Format) (s : Bool) → cond (leb 1 (cond s (top f) 0)) minus plus ≡ cond s minus plus
+      chosen binary32 true = refl
+      chosen binary32 false = refl
+      chosen binary64 true = refl
+      chosen binary64 false = refl
+
+      way : (s : Bool) → wayOf (cond s minus plus) ≡ ways (wayOf plus) (wayOf minus) s
+      way true = refl
+      way false = refl
+
+      go : (s : Bool) → leb (top f) (toBits f x) ≡ s → ofBits f (bitAnd (toBits f x) (top f) + r) ≡ wholeOf f (ways (wayOf plus) (wayOf minus)) x
+      go s k =
+          let i = sign-is s k in
+          let j = e ∙ ap (λ (y : ℕ). cond (leb 1 y) minus plus) i ∙ chosen f s in
+          ap (λ (y : ℕ). ofBits f (y + r)) i
+          ∙ signed f (ways (wayOf plus) (wayOf minus)) x s r t l k (subst (λ (y : Way). Wholes f s y (sized f x) r) (ap wayOf j ∙ way s) (h s))
+
 -- the result is no NaN's
 pub no-nan-bits : (f : Format) (s : Bool) (r : ℕ) → r < ones f * hid f → T (not (nanBits f (cond s (top f) 0 + r)))
 no-nan-bits f s r h =
@@ -116,3 +144,6 @@ no-nan-bits f s r h =
     go : (s : Bool) → (cond s (top f) 0 + r) % top f ≡ r % top f
     go true = add-mod-left (top f) r
     go false = ap (λ (y : ℕ). y % top f) (zero-add r)
+
+pub no-nan-signed : (f : Format) (x : Float) (r : ℕ) → T (fits f x) → r < ones f * hid f → T (not (nanBits f (bitAnd (toBits f x) (top f) + r)))
+no-nan-signed f x r t h = subst (λ (y : ℕ). T (not (nanBits f (y + r)))) (sym (sign-bit f x t)) (no-nan-bits f (leb (top f) (toBits f x)) r h)

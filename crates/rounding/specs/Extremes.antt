@@ -1,5 +1,5 @@
--- The smaller and the larger of two floats where a NaN is passed over (IEEE 754-2019's minimumNumber and maximumNumber, Rust's `min` and `max`), a float
--- brought between two bounds, and its size. Of two equal numbers, as two zeros, the first is taken: Rust leaves that open. Definitions only. Assumes nothing.
+-- The smaller and the larger of two floats where a NaN is passed over, as Rust's `min` and `max`, a float brought between two bounds, and its size. Definitions only.
+-- Assumes nothing.
 use mathlib.Core.Bool.{Bool, false, cond}
 use lib.Ieee.{Float, nan, inf, fin, lt, le, isNan}
 
@@ -11,10 +11,13 @@ first rel x y = cond (isNan x) y (cond (isNan y) x (cond (rel x y) x y))
 abbrev pub ge : Float → Float → Bool
 ge x y = le y x
 
+-- Not quite IEEE 754-2019's minimumNumber (9.6): of a +0 and a -0 that one gives -0, and it signals on a signaling NaN. Here the first of two equal numbers is taken, zeros
+-- of unlike sign included, which Rust leaves open (docs/DECISIONS.md, 17), and there is one NaN, which signals nothing.
 unfoldable pub minOf : Float → Float → Float
 unfolding first le
 minOf x y = first le x y
 
+-- in the same way not quite maximumNumber, which gives +0 of a +0 and a -0
 unfoldable pub maxOf : Float → Float → Float
 unfolding first le
 maxOf x y = first ge x y

@@ -10,6 +10,7 @@ pub mod Quotients
 pub mod Products
 pub mod Count
 pub mod Whole
+pub mod WholeNearest
 pub mod Width
 pub mod Past
 pub mod Extremes
@@ -20,4 +21,5 @@ pub mod RootNearest
 pub mod RootOrder
 pub mod RootTest
 pub mod Thresholds
+pub mod NearOne
 pub mod Least

@@ -9,7 +9,7 @@ ghost use Rattle.rounding.specs.Stored.{storedOf};
 pub fn from_bits32(word: u32) -> f32
     ensures { λ r. ⌜ r ≡ ofBits binary32 word ⌝ }
 {
-    if word % 0x8000_0000 > 0x7f80_0000 {
+    if (word & 0x7fff_ffff) > 0x7f80_0000 {
         return 0.0 / 0.0;
     }
     f32::from_bits(word)
@@ -20,7 +20,7 @@ pub fn from_bits64(low: u32, high: u32) -> f64
     ensures { λ r. ⌜ r ≡ ofBits binary64 (high * 2 ^ 32 + low) ⌝ }
 {
     let word = (high as u64) * 0x1_0000_0000 + (low as u64);
-    if word % 0x8000_0000_0000_0000 > 0x7ff0_0000_0000_0000 {
+    if (word & 0x7fff_ffff_ffff_ffff) > 0x7ff0_0000_0000_0000 {
         return 0.0 / 0.0;
     }
     f64::from_bits(word)

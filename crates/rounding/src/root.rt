@@ -3,9 +3,9 @@
 
 ghost use mathlib.Core.Path.{_≡_};
 ghost use Prim.Native.Nat.{_+_, _-_, _*_, _/_, _^_, _≤_, _<_};
-ghost use mathlib.Core.Bool.{true, false};
+ghost use mathlib.Core.Bool.{true, false, cond};
 ghost use lib.Ieee.{Format, prec, emax, low, binary32, binary64, ofBits, ne};
-ghost use Rattle.rounding.specs.Root.{sqrtOf, rootOf, PositiveRoot};
+ghost use Rattle.rounding.specs.Root.{sqrtOf, rootOf, nearOne};
 ghost use Rattle.rounding.specs.Steps.{Shaped, Root, Rooted, Guessed, Radicand};
 
 // Near the root of n, for an n from 2^52 up: a parabola in its first 16 digits, and Newton's step with
@@ -380,20 +380,20 @@ fn trial(b: u64) -> u64
     (w / 0x8_0000_0000 + 0x2000_0000 + c * d / 0x1_0000) / 0x40
 }
 
-// The bits of the root of the normal `f32` with the bits b. The trial r is right where the digits v and
-// its square are at most r apart.
+// The bits of the root of the normal `f32` with the bits b. The digits v are moved up by 24 places, under
+// an odd field of the exponent by 23. The trial r is right where v and its square are at most r apart.
 fn root_normal(b: u64) -> u64
     requires { ⌜ 2 ^ 23 ≤ b ⌝ ∗ ⌜ b < 255 * 2 ^ 23 ⌝ }
     ensures { λ r. ⌜ Rooted binary32 (sqrtOf binary32 (ofBits binary32 b)) r ⌝ }
 {
     let field = b >> 23;
     let digits = b & 0x7f_ffff;
-    let v = (digits + 0x80_0000) * (2 - field % 2) * 0x80_0000;
+    let v = (0x80_0000 + digits) << (24 - (field & 1));
     let r = trial(b);
     let square = r * r;
     if square < v + r {
         if v <= square + r {
-            return (field + 125) / 2 * 0x80_0000 + r;
+            return (((field + 125) >> 1) << 23) + r;
         }
     }
     root_bits(24, 127, b)
@@ -401,27 +401,28 @@ fn root_normal(b: u64) -> u64
 
 // The root of the number with the bits b, next to 1: it lies half as far from 1.
 fn near_one(b: u64) -> f32
-    requires { ⌜ (b + 4096) / 8192 ≡ 130048 ⌝ }
-    ensures { λ r. ⌜ PositiveRoot (ofBits binary32 b) r ⌝ }
+    requires { ⌜ (b + 0x1000) / 0x2000 ≡ 0x1_fc00 ⌝ }
+    ensures { λ r. ⌜ r ≡ sqrtOf binary32 (ofBits binary32 b) ⌝ }
 {
-    f32::from_bits(((b + 0x3f80_0000) / 2) as u32)
+    f32::from_bits(((b + 0x3f80_0000) >> 1) as u32)
 }
 
-// Whether a number lies next to 1, and if so its root.
+// Whether a number lies next to 1, and if so its root, else the number itself.
 pub struct Near {
     pub is: bool,
     pub root: f32,
 }
 
-// The root of x, if x lies within 0.0002 of 1. Lengths of directions have such roots.
+// The root of x, if x lies next to 1: the first 19 bits of x, to the nearest, are those of 1. Lengths of
+// directions have such roots.
 pub fn root_near_one(x: f32) -> Near
-    ensures { λ r. ⌜ (r .is ≡ true → PositiveRoot x (r .root)) ⌝ }
+    ensures { λ r. ⌜ r .is ≡ nearOne x ⌝ ∗ ⌜ r .root ≡ cond (nearOne x) (sqrtOf binary32 x) x ⌝ }
 {
     if x != x {
         return Near { is: false, root: x };
     }
     let b = f32::to_bits(x) as u64;
-    if (b + 0x1000) / 0x2000 == 0x1_fc00 {
+    if (b + 0x1000) >> 13 == 0x1_fc00 {
         return Near {
             is: true,
             root: near_one(b),
@@ -438,30 +439,33 @@ pub fn sqrt32(x: f32) -> f32
         return x;
     }
     let b = f32::to_bits(x);
-    if b >= 0x80_0000 {
-        if b < 0x7f80_0000 {
+    let head = b >> 23; // the sign and the exponent
+    if head != 0 {
+        if head < 0xff {
             return f32::from_bits(root_normal(b as u64) as u32);
         }
     }
     root_rare(x)
 }
 
-// The root of an x that is no NaN, by its bits: zero, infinite, negative, or any other.
+// The root of an x that is no NaN, by its sign and the bits without it: zero, negative, infinite, or any
+// other.
 fn root_rare(x: f32) -> f32
     requires { ⌜ ne x x ≡ false ⌝ }
     ensures { λ r. ⌜ r ≡ sqrtOf binary32 x ⌝ }
 {
     let b = f32::to_bits(x);
-    if (b & 0x7fff_ffff) == 0 {
+    let size = b & 0x7fff_ffff;
+    if size == 0 {
         return x;
     }
-    if b == 0x7f80_0000 {
-        return x;
-    }
-    if b > 0x7f80_0000 {
+    if b >> 31 != 0 {
         return 0.0 / 0.0;
     }
-    f32::from_bits(root_bits(24, 127, b as u64) as u32)
+    if size == 0x7f80_0000 {
+        return x;
+    }
+    f32::from_bits(root_bits(24, 127, size as u64) as u32)
 }
 
 // The square root of x, rounded to the nearest `f64`, a tie to the even one.
@@ -472,14 +476,15 @@ pub fn sqrt64(x: f64) -> f64
         return x;
     }
     let b = f64::to_bits(x);
-    if (b & 0x7fff_ffff_ffff_ffff) == 0 {
+    let size = b & 0x7fff_ffff_ffff_ffff;
+    if size == 0 {
         return x;
     }
-    if b == 0x7ff0_0000_0000_0000 {
-        return x;
-    }
-    if b > 0x7ff0_0000_0000_0000 {
+    if b >> 63 != 0 {
         return 0.0 / 0.0;
     }
-    f64::from_bits(root_bits(53, 1023, b))
+    if size == 0x7ff0_0000_0000_0000 {
+        return x;
+    }
+    f64::from_bits(root_bits(53, 1023, size))
 }

@@ -1,6 +1,7 @@
 // Floats to whole numbers of their format, by the bits.
 ghost use mathlib.Core.Path.{_≡_};
-ghost use mathlib.Core.Bool.{Bool};
+ghost use mathlib.Core.Bool.{Bool, cond};
+ghost use lib.Dec.{leb};
 ghost use Prim.Native.Nat.{_+_, _-_, _*_, _^_, _≤_, _<_};
 ghost use lib.Ieee.{Format, prec, emax, binary32, binary64};
 ghost use Rattle.rounding.specs.Steps.{Shaped, wayOf, stepOf, limitOf, Wholes};
@@ -52,6 +53,13 @@ fn whole_bits(p: u64, e: u64, b: u64, way: u64) -> u64
     t - (t & (unit - 1))
 }
 
+// The way of a number by its sign, masked out of its pattern.
+fn way_by(sign: u64, plus: u64, minus: u64) -> u64
+    ensures { λ r. ⌜ r ≡ cond (leb 1 sign) minus plus ⌝ }
+{
+    if sign == 0 { plus } else { minus }
+}
+
 // A float to a whole number: `plus` is the way of those above zero, and `minus` of those below.
 fn whole32(x: f32, plus: u64, minus: u64) -> f32
     ensures { λ r. ⌜ r ≡ wholeOf binary32 (ways (wayOf plus) (wayOf minus)) x ⌝ }
@@ -61,14 +69,12 @@ fn whole32(x: f32, plus: u64, minus: u64) -> f32
     }
     let b = f32::to_bits(x);
     let size = b & 0x7fff_ffff;
+    let sign = b & 0x8000_0000;
     if size == 0x7f80_0000 {
         return x;
     }
-    if b < 0x8000_0000 {
-        f32::from_bits(whole_bits(24, 127, size as u64, plus) as u32)
-    } else {
-        f32::from_bits(0x8000_0000 + (whole_bits(24, 127, size as u64, minus) as u32))
-    }
+    let r = whole_bits(24, 127, size as u64, way_by(sign as u64, plus, minus));
+    f32::from_bits(sign + (r as u32))
 }
 
 pub fn floor32(x: f32) -> f32
@@ -98,14 +104,12 @@ fn whole64(x: f64, plus: u64, minus: u64) -> f64
     }
     let b = f64::to_bits(x);
     let size = b & 0x7fff_ffff_ffff_ffff;
+    let sign = b & 0x8000_0000_0000_0000;
     if size == 0x7ff0_0000_0000_0000 {
         return x;
     }
-    if b < 0x8000_0000_0000_0000 {
-        f64::from_bits(whole_bits(53, 1023, size, plus))
-    } else {
-        f64::from_bits(0x8000_0000_0000_0000 + whole_bits(53, 1023, size, minus))
-    }
+    let r = whole_bits(53, 1023, size, way_by(sign, plus, minus));
+    f64::from_bits(sign + r)
 }
 
 pub fn floor64(x: f64) -> f64

@@ -7,38 +7,32 @@ ghost use lib.Ieee.Nearest.{closest};
 ghost use Rattle.rounding.specs.Width.{narrowOf};
 ghost use Rattle.rounding.specs.Steps.{Narrows, Widens};
 
-// x less 1, and 0 for 0.
-fn before(x: u64) -> u64
-    ensures { λ r. ⌜ r ≡ x - 1 ⌝ }
-{
-    if x == 0 { 0 } else { x - 1 }
-}
-
 // q / 2^s to the nearest whole number, a tie to the even one.
 fn nearest_even(q: u64, s: u64) -> u64
     requires { ⌜ q < 2 ^ 53 ⌝ ∗ ⌜ 1 ≤ s ⌝ ∗ ⌜ s ≤ 63 ⌝ }
     ensures { λ r. ⌜ r ≡ closest q (2 ^ s) ⌝ }
 {
-    let odd = (q >> s) % 2;
+    let odd = (q >> s) & 1;
     (q + ((1u64 << (s - 1)) - 1) + odd) >> s
 }
 
-// The bits of the `f32` nearest to the `f64` with the bits b, both without their signs.
+// The bits of the `f32` nearest to the `f64` with the bits b, both without their signs. An `f64` below
+// 2^-1022, which has no leading digit of its own, is far below half of the smallest `f32`.
 fn narrow_bits(b: u64) -> u64
     requires { ⌜ b < 0x7ff0_0000_0000_0000 ⌝ }
     ensures { λ r. ⌜ ((s : Bool) → Narrows s b r) ⌝ }
 {
-    let h = before(b >> 52);
-    let q = b - h * 0x10_0000_0000_0000;
-    if h >= 896 {
-        let t = (h - 896) * 0x80_0000 + nearest_even(q, 29);
+    let field = b >> 52;
+    let q = 0x10_0000_0000_0000 + (b & 0xf_ffff_ffff_ffff);
+    if field >= 897 {
+        let t = ((field - 897) << 23) + nearest_even(q, 29);
         if t > 0x7f80_0000 {
             return 0x7f80_0000;
         }
         return t;
     }
-    if h >= 862 {
-        return nearest_even(q, 925 - h);
+    if field >= 863 {
+        return nearest_even(q, 926 - field);
     }
     0
 }
@@ -52,17 +46,11 @@ pub fn narrow(x: f64) -> f32
     }
     let b = f64::to_bits(x);
     let size = b & 0x7fff_ffff_ffff_ffff;
+    let sign = (b >> 63) << 31;
     if size == 0x7ff0_0000_0000_0000 {
-        if b < 0x8000_0000_0000_0000 {
-            return f32::from_bits(0x7f80_0000);
-        }
-        return f32::from_bits(0xff80_0000);
+        return f32::from_bits((sign + 0x7f80_0000) as u32);
     }
-    if b < 0x8000_0000_0000_0000 {
-        f32::from_bits(narrow_bits(size) as u32)
-    } else {
-        f32::from_bits(0x8000_0000 + (narrow_bits(size) as u32))
-    }
+    f32::from_bits((sign + narrow_bits(size)) as u32)
 }
 
 // The bits of the double equal to the single with the bits b, both without their signs. A single
@@ -71,7 +59,7 @@ fn widen_bits(b: u64) -> u64
     requires { ⌜ b < 0x7f80_0000 ⌝ }
     ensures { λ r. ⌜ Widens b r ⌝ }
 {
-    if b >= 0x80_0000 {
+    if b >> 23 != 0 {
         return (b << 29) + (896 << 52);
     }
     if b == 0 {
@@ -90,16 +78,9 @@ pub fn widen(x: f32) -> f64
     }
     let b = f32::to_bits(x);
     let size = b & 0x7fff_ffff;
+    let sign = ((b >> 31) as u64) << 63;
     if size == 0x7f80_0000 {
-        if b < 0x8000_0000 {
-            return f64::from_bits(0x7ff0_0000_0000_0000);
-        }
-        return f64::from_bits(0xfff0_0000_0000_0000);
+        return f64::from_bits(sign + 0x7ff0_0000_0000_0000);
     }
-    let wide = widen_bits(size as u64);
-    if b < 0x8000_0000 {
-        f64::from_bits(wide)
-    } else {
-        f64::from_bits(0x8000_0000_0000_0000 + wide)
-    }
+    f64::from_bits(sign + widen_bits(size as u64))
 }

@@ -1,5 +1,6 @@
 -- Floats to whole numbers. Every way keeps the order (`whole-mono`). Of a value that the format holds, the result is the whole number exactly (`whole-value`): so the floor is
--- the greatest whole number at most x, and a cast to an unsigned integer makes the same of x and of its floor. Assumes nothing.
+-- the greatest whole number at most x (`floor-greatest`), the ceiling the least at least x (`ceil-least`), and a cast to an unsigned integer makes the same of x and of its
+-- floor. Assumes nothing.
 use mathlib.Core.Path.{_≡_, refl, sym, ap, _∙_}
 use mathlib.Core.Logic.{_⊎_, inl, inr}
 use Prim.Native.Nat.{ℕ, suc, _+_, _-_, _*_, _/_, _%_, _^_, _≤_, _<_, min, zero-le}
@@ -221,6 +222,28 @@ floor-greatest f (fin s m e) (fin u n d) t k h v l =
   where
     same-value : (t : Bool) (k : ℕ) (u : Bool) (b d : ℕ) → u ≡ t → b * 1 ≡ k * d → Cross t k 1 u b d
     same-value t k u b d i j = rw i (same-le t k 1 b d (sym j))
+
+-- ---- nor one between x and its ceiling
+least-cross : (s : Bool) (a c : ℕ) (t : Bool) (k : ℕ) → 0 < c → Cross s a c t k 1 → Cross s (wholeSize (ways away toward s) a c) 1 t k 1
+least-cross false a c false k C h = let g = away-least a c k C (omega arith) in omega arith
+least-cross false a c true k C h =
+    let A : a ≡ 0 = zero-of a 1 k c (zero-lt-suc 0) (omega arith) in
+    let K : k ≡ 0 = zero-of k c a 1 C (omega arith) in
+    rw (A, K) (let z = size-zero away c C in omega arith)
+least-cross true a c false k C h = omega arith
+least-cross true a c true k C h = let g = toward-greatest a c k C (omega arith) in omega arith
+
+pub ceil-least : (f : Format) (x y : Float) (t : Bool) (k : ℕ) → T (fits f x) → HasValue y t k 1 → T (le x y) → T (le (ceilOf f x) y)
+ceil-least f x nan t k h v l = absurd v
+ceil-least f x (inf u) t k h v l = absurd v
+ceil-least f nan (fin u n d) t k h v l = absurd (le→Le nan (fin u n d) l)
+ceil-least f (inf s) (fin u n d) t k h v l = rw (whole-inf f (ways away toward) s) l
+ceil-least f (fin s m e) (fin u n d) t k h v l =
+    le-of-values (ceilOf f (fin s m e)) (fin u n d) s (wholeSize (ways away toward s) (m * up e) (down e)) 1 t k 1 (zero-lt-suc 0) (zero-lt-suc 0) (whole-value f (ways away toward) s m e h) v
+    (least-cross s (m * up e) (down e) t k (down-pos e) (cross-trans s (m * up e) (down e) u (n * up d) (down d) t k 1 (down-pos d) (le→Le (fin s m e) (fin u n d) l) (same-value t k u (n * up d) (down d) (v .0) (v .1))))
+  where
+    same-value : (t : Bool) (k : ℕ) (u : Bool) (b d : ℕ) → u ≡ t → b * 1 ≡ k * d → Cross u b d t k 1
+    same-value t k u b d i j = rw i (same-le t b d k 1 j)
 
 -- ---- the cast cuts a fraction off, so a floor before it changes nothing
 pub cast-floor : (w : ℕ) (f : Format) (x : Float) → T (fits f x) → toUnsigned w (floorOf f x) ≡ toUnsigned w x

@@ -1,15 +1,14 @@
 -- `rounding::width::narrow` meets its contract: each case is a law of `proofs/Narrowing.antt`. Assumes nothing.
 use mathlib.Core.Path.{_≡_, refl, sym, ap, _∙_, subst}
-use mathlib.Core.Bool.{Bool, true, false, not}
-use Prim.Native.Nat.{ℕ, _<_, _≤_, _+_, _-_, _*_, _%_, _^_}
-use native.Mathlib.Nat.{zero-add}
+use mathlib.Core.Bool.{Bool, true, false, not, cond}
+use Prim.Native.Nat.{ℕ, _<_, _≤_, _+_, _-_, _*_, _/_, _%_, _^_}
 use native.Mathlib.Omega.{arith}
-use borrow.Author.Tests.{lt-leb, le-leb}
-use lib.Dec.{T}
+use lib.Dec.{T, leb}
 use lib.Bits.{bitAnd, and-mask}
 use lib.Ieee.{Float, binary32, binary64, fits, toBits, ofBits, ones, hid, top, nanBits, div}
 use Rattle.rounding.specs.Steps.{Narrows}
 use Rattle.rounding.proofs.Fields.{no-nan}
+use Rattle.rounding.proofs.Words.{sign-thin, sign-le, inf-signed}
 use Rattle.rounding.proofs.Sign.{sized, sized-lt}
 use Rattle.rounding.proofs.Narrowing.{nan-thin, inf-thin, signed-thin, no-nan-most}
 use Rattle.rounding.proofs.width.narrow.Statement.{statement}
@@ -35,78 +34,57 @@ returns c = nan-thin (c .before .args .x) (c .if1 .taken)
 float-to-bits-b : tie.Need-float-to-bits-b
 float-to-bits-b c = no-nan (c .before .args .x) (c .if1 .left)
 
-float-from-bits-result : tie.Need-float-from-bits-result
-unfolding nanBits
-float-from-bits-result c = tt
+-- the sign, and with it the bits up to the infinity's, which are no NaN's
+sign : (c : tie.Start) → Bool
+sign c = leb (top binary64) (toBits binary64 (c .args .x))
 
-returns-2 : tie.Need-returns-2
-unfolding ofBits
-returns-2 c =
-    let s = c .before .before .before in
-    inf-thin (s .args .x) false (held s) (sym (masked (s .args .x)) ∙ c .before .if2 .taken) (lt-leb (top binary64) (toBits binary64 (s .args .x)) (c .if3 .taken))
+abbrev placed : tie.Start → ℕ
+placed c = toBits binary64 (c .args .x) / 2 ^ 63 * 2 ^ 31 % 2 ^ 64
 
-float-from-bits-result-2 : tie.Need-float-from-bits-result-2
-unfolding nanBits
-float-from-bits-result-2 c = tt
+placed-is : (c : tie.Start) → placed c ≡ cond (sign c) (top binary32) 0
+unfolding sign
+placed-is c = sign-thin (c .args .x) (held c)
 
-returns-3 : tie.Need-returns-3
-unfolding ofBits
-returns-3 c =
-    let s = c .before .before .before in
-    inf-thin (s .args .x) true (held s) (sym (masked (s .args .x)) ∙ c .before .if2 .taken) (le-leb (top binary64) (toBits binary64 (s .args .x)) (c .if3 .left))
+placed-le : (c : tie.Start) → placed c ≤ 2 ^ 31
+placed-le c = rw (placed-is c) (sign-le binary32 (sign c))
 
-narrow-bits-requires : tie.Need-narrow-bits-requires
-narrow-bits-requires c κs = rw (masked (c .before .before .before .args .x)) (within (c .before))
-
-cast-result : tie.Need-cast-result
-cast-result c = omega (arith, c .narrow-bits .ensures false .most)
-
-float-from-bits-result-3 : tie.Need-float-from-bits-result-3
-float-from-bits-result-3 c =
-    let r = c .narrow-bits .result in
-    let m = c .narrow-bits .ensures false .most in
-    subst (λ (x : ℕ). T (not (nanBits binary32 x))) (zero-add r) (no-nan-most binary32 false r m (omega arith))
-
-narrow-bits-requires-2 : tie.Need-narrow-bits-requires-2
-narrow-bits-requires-2 c κs = rw (masked (c .before .before .before .args .x)) (within (c .before))
-
-cast-result-2 : tie.Need-cast-result-2
-cast-result-2 c = omega (arith, c .narrow-bits2 .ensures true .most)
+plain : (c : tie.Start) (r : ℕ) → r ≤ ones binary32 * hid binary32 → T (not (nanBits binary32 (placed c + r)))
+plain c r h = subst (λ (y : ℕ). T (not (nanBits binary32 (y + r)))) (sym (placed-is c)) (no-nan-most binary32 (sign c) r h (omega arith))
 
 add-result : tie.Need-add-result
-add-result c = omega (arith, c .narrow-bits2 .ensures true .most)
+add-result c = omega (arith, placed-le (c .before .before))
 
-float-from-bits-result-4 : tie.Need-float-from-bits-result-4
-float-from-bits-result-4 c = let m = c .narrow-bits2 .ensures true .most in no-nan-most binary32 true (c .narrow-bits2 .result) m (omega arith)
+cast-result : tie.Need-cast-result
+cast-result c = omega (arith, placed-le (c .before .before))
 
-returns-4 : tie.Need-returns-4
-returns-4 c =
-    let s = c .before .before .before .before in
+float-from-bits-result : tie.Need-float-from-bits-result
+float-from-bits-result c = plain (c .before .before) 0x7f80_0000 (omega arith)
+
+returns-2 : tie.Need-returns-2
+unfolding sign
+returns-2 c =
+    let s = c .before .before in
+    ap (λ (y : ℕ). ofBits binary32 (y + 0x7f80_0000)) (placed-is s) ∙ inf-signed binary32 (sign s) ∙ inf-thin (s .args .x) (sign s) (held s) (sym (masked (s .args .x)) ∙ c .if2 .taken) refl
+
+narrow-bits-requires : tie.Need-narrow-bits-requires
+narrow-bits-requires c κs = rw (masked (c .before .before .args .x)) (within c)
+
+add-result-2 : tie.Need-add-result-2
+add-result-2 c = omega (arith, placed-le (c .before .before .before), c .narrow-bits .ensures false .most)
+
+cast-result-2 : tie.Need-cast-result-2
+cast-result-2 c = omega (arith, placed-le (c .before .before .before), c .narrow-bits .ensures false .most)
+
+float-from-bits-result-2 : tie.Need-float-from-bits-result-2
+float-from-bits-result-2 c = plain (c .before .before .before) (c .narrow-bits .result) (c .narrow-bits .ensures false .most)
+
+returns-3 : tie.Need-returns-3
+unfolding sign
+returns-3 c =
+    let s = c .before .before .before in
     let r = c .narrow-bits .result in
-    ap (ofBits binary32) (sym (zero-add r))
-    ∙ signed-thin (s .args .x) false r (held s) (within (c .before .before)) (lt-leb (top binary64) (toBits binary64 (s .args .x)) (c .before .if4 .taken)) (rw (masked (s .args .x)) at (c .narrow-bits .ensures false))
-
-returns-5 : tie.Need-returns-5
-returns-5 c =
-    let s = c .before .before .before .before in
-    signed-thin (s .args .x) true (c .narrow-bits2 .result) (held s) (within (c .before .before)) (le-leb (top binary64) (toBits binary64 (s .args .x)) (c .before .if4 .left)) (rw (masked (s .args .x)) at (c .narrow-bits2 .ensures true))
+    ap (λ (y : ℕ). ofBits binary32 (y + r)) (placed-is s)
+    ∙ signed-thin (s .args .x) (sign s) r (held s) (within (c .before)) refl (rw (masked (s .args .x)) at (c .narrow-bits .ensures (sign s)))
 
 pub narrow-spec : {M : Type 1} → statement M
-narrow-spec =
-    tie.close
-    (tie.spec
-    returns
-    float-to-bits-b
-    float-from-bits-result
-    returns-2
-    float-from-bits-result-2
-    returns-3
-    narrow-bits-requires
-    cast-result
-    float-from-bits-result-3
-    narrow-bits-requires-2
-    cast-result-2
-    add-result
-    float-from-bits-result-4
-    returns-4
-    returns-5)
+narrow-spec = tie.close (tie.spec returns float-to-bits-b add-result cast-result float-from-bits-result returns-2 narrow-bits-requires add-result-2 cast-result-2 float-from-bits-result-2 returns-3)

@@ -1,10 +1,11 @@
 -- `rounding::width::narrow_bits` meets its contract: the law of each way out is `proofs/Pack.antt`'s. Assumes nothing.
-use mathlib.Core.Path.{_≡_, refl, sym, ap, _∙_, subst}
+use mathlib.Core.Path.{_≡_, refl, sym, ap, ap₂, _∙_, subst}
 use mathlib.Core.Bool.{Bool, cond}
 use Prim.Native.Nat.{ℕ, suc, _+_, _-_, _*_, _/_, _%_, _^_, _≤_, _<_, min}
 use native.Mathlib.Nat.{le-trans, lt-of-lt-of-le, min-eq-left, min-eq-right, div-lt-iff-lt-mul, mul-le-mul-left, zero-add}
 use native.Mathlib.Omega.{arith}
-use lib.Pow.{pow-pos, pow-mono, pow-add}
+use lib.Bits.{bitAnd, and-mask}
+use lib.Pow.{pow-pos, pow-mono, shl-exact}
 use lib.Ieee.{binary32, binary64, low, prec, hid, top, ones, toBits, round}
 use lib.Ieee.Nearest.{closest}
 use Rattle.rounding.specs.Steps.{Narrows, sizeOf}
@@ -42,42 +43,59 @@ small s b h =
     packs-low binary32 s (digits b) (shift b) 925 29 (short b) (omega arith)
     ∙ ap (λ (x : ℕ). cond s (top binary32) 0 + x) (omega arith)
 
-before-requires : tie.Need-before-requires
-before-requires c κs = search needs
+-- the digits as the code masks them, with the leading one
+abbrev read : ℕ → ℕ
+read b = 2 ^ 52 + bitAnd b (2 ^ 52 - 1)
 
-mul-q : tie.Need-mul-q
-mul-q c = search needs
+read-lt : (b : ℕ) → read b < 2 ^ 53
+read-lt b = rw (and-mask b 52) (omega arith)
 
-sub-q : tie.Need-sub-q
-sub-q c = search needs
+read-is : (b : ℕ) → 1 ≤ b / 2 ^ 52 → read b ≡ digits b
+read-is b h = rw (and-mask b 52) (omega arith)
 
-mul-t : tie.Need-mul-t
-mul-t c = search needs
+-- the exponent of the result, shifted to its place
+placed : (b : ℕ) → b < 2047 * 2 ^ 52 → (b / 2 ^ 52 - 897) * 2 ^ 23 % 2 ^ 64 ≡ (shift b - 896) * 2 ^ 23
+placed b h =
+    let l : b / 2 ^ 52 - 897 < 2 ^ 11 = omega arith in
+    let e : b / 2 ^ 52 - 897 ≡ shift b - 896 = omega arith in
+    shl-exact 11 23 64 l (omega arith) ∙ ap (λ (x : ℕ). x * 2 ^ 23) e
+
+add-q : tie.Need-add-q
+add-q c = omega (arith, read-lt (c .args .b))
 
 nearest-even-requires : tie.Need-nearest-even-requires
-nearest-even-requires c κs = search needs
+nearest-even-requires c κs = (read-lt (c .before .args .b), (omega arith, omega arith))
 
-kept : (c : tie.After-nearest-even) → c .nearest-even .result ≡ closest (digits (c .before .before .before .args .b)) (2 ^ 29)
-kept c = c .nearest-even .ensures ∙ ap (λ (x : ℕ). closest (c .before .before .before .args .b - x * 2 ^ 52) (2 ^ 29)) (c .before .before .before2 .ensures)
+kept : (c : tie.After-nearest-even) → c .nearest-even .result ≡ closest (digits (c .before .before .args .b)) (2 ^ 29)
+kept c =
+    let b = c .before .before .args .b in
+    let h : 1 ≤ b / 2 ^ 52 = omega (arith, c .before .if1 .taken) in
+    c .nearest-even .ensures ∙ ap (λ (x : ℕ). closest x (2 ^ 29)) (read-is b h)
+
+-- the result before its overflow is looked at
+abbrev total : tie.After-nearest-even → ℕ
+total c = (c .before .before .args .b / 2 ^ 52 - 897) * 2 ^ 23 % 2 ^ 64 + c .nearest-even .result
+
+total-is : (c : tie.After-nearest-even) → total c ≡ (shift (c .before .before .args .b) - 896) * 2 ^ 23 + closest (digits (c .before .before .args .b)) (2 ^ 29)
+total-is c = ap₂ (λ (x y : ℕ). x + y) (placed (c .before .before .args .b) (c .before .before .pre)) (kept c)
 
 add-t : tie.Need-add-t
 add-t c =
-    let m = kept-le (digits (c .before .before .before .args .b)) 29 (omega arith) (short (c .before .before .before .args .b)) in
-    omega (arith, kept c, c .before .before .before2 .ensures, c .before .before .before .fits .b, m, c .before .before .before .pre)
+    let b = c .before .before .args .b in
+    let m = kept-le (digits b) 29 (omega arith) (short b) in
+    omega (arith, total-is c, m, c .before .before .pre)
 
 returns : tie.Need-returns
 returns c = λ s.
-    let b = c .before .before .before .before .args .b in
-    let h = c .before .before .before .before2 .ensures in
-    let r = kept (c .before) in
+    let b = c .before .before .before .args .b in
+    let r = total-is (c .before) in
     let g : 896 ≤ shift b = omega (arith, c .before .before .if1 .taken) in
     record { value = high s b g ∙ ap (λ (x : ℕ). cond s (top binary32) 0 + x) (omega (arith, c .if2 .taken)); most = omega arith }
 
 returns-2 : tie.Need-returns-2
 returns-2 c = λ s.
-    let b = c .before .before .before .before .args .b in
-    let h = c .before .before .before .before2 .ensures in
-    let r = kept (c .before) in
+    let b = c .before .before .before .args .b in
+    let r = total-is (c .before) in
     let g : 896 ≤ shift b = omega (arith, c .before .before .if1 .taken) in
     record { value = high s b g ∙ ap (λ (x : ℕ). cond s (top binary32) 0 + x) (omega (arith, c .if2 .left)); most = omega (arith, c .if2 .left) }
 
@@ -85,21 +103,22 @@ sub-nearest-even : tie.Need-sub-nearest-even
 sub-nearest-even c = search needs
 
 nearest-even-requires-2 : tie.Need-nearest-even-requires-2
-nearest-even-requires-2 c κs = search needs
+nearest-even-requires-2 c κs = (read-lt (c .before .before .args .b), (omega arith, omega (arith, c .if3 .taken)))
 
 returns-3 : tie.Need-returns-3
 returns-3 c = λ s.
-    let b = c .before .before .before .before .args .b in
-    let h = c .before .before .before .before2 .ensures in
+    let b = c .before .before .before .args .b in
+    let f = c .before .if3 .taken in
     let g : shift b < 896 = omega (arith, c .before .before .if1 .left) in
-    let r : c .nearest-even2 .result ≡ closest (digits b) (2 ^ (925 - shift b)) = c .nearest-even2 .ensures ∙ ap (λ (x : ℕ). closest (b - x * 2 ^ 52) (2 ^ (925 - x))) h in
+    let h : 1 ≤ b / 2 ^ 52 = omega (arith, f) in
+    let e : 926 - b / 2 ^ 52 ≡ 925 - shift b = omega arith in
+    let r : c .nearest-even2 .result ≡ closest (digits b) (2 ^ (925 - shift b)) = c .nearest-even2 .ensures ∙ ap₂ (λ (x y : ℕ). closest x (2 ^ y)) (read-is b h) e in
     let m = kept-le (digits b) (925 - shift b) (omega arith) (short b) in
     record { value = small s b g ∙ ap (λ (x : ℕ). cond s (top binary32) 0 + x) (sym r); most = omega arith }
 
 returns-4 : tie.Need-returns-4
 returns-4 c = λ s.
-    let b = c .before .before .before .args .b in
-    let h = c .before .before .before2 .ensures in
+    let b = c .before .before .args .b in
     let g : shift b < 862 = omega (arith, c .if3 .left) in
     let k : 54 ≤ 925 - shift b = omega arith in
     let p : 2 ^ 54 ≤ 2 ^ (925 - shift b) = pow-mono k in
@@ -110,10 +129,7 @@ pub narrow-bits-spec : {M : Type 1} → statement M
 narrow-bits-spec =
     tie.close
     (tie.spec
-    before-requires
-    mul-q
-    sub-q
-    mul-t
+    add-q
     nearest-even-requires
     add-t
     returns

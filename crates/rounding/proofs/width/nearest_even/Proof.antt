@@ -4,6 +4,7 @@ use Prim.Native.Nat.{ℕ, suc, _+_, _-_, _*_, _/_, _%_, _^_, _≤_, _<_}
 use native.Mathlib.Nat.{one-mul, pow-succ'}
 use native.Mathlib.Omega.{arith}
 use lib.Dec.{lit<}
+use lib.Bits.{and-mask}
 use lib.Pow.{pow-pos, pow-mono, shl-exact}
 use lib.Ieee.Nearest.{closest}
 use Rattle.rounding.proofs.Pack.{even-up}
@@ -36,7 +37,7 @@ add-result : tie.Need-add-result
 add-result c = let h = half-lt c in rw (weight c) (omega (arith, c .pre .0))
 
 add-result-2 : tie.Need-add-result-2
-add-result-2 c = let h = half-lt c in rw (weight c) (omega (arith, c .pre .0))
+add-result-2 c = let h = half-lt c in rw (weight c, and-mask (c .args .q / 2 ^ c .args .s) 1) (omega (arith, c .pre .0))
 
 shr-result : tie.Need-shr-result
 shr-result c = search needs
@@ -46,7 +47,7 @@ returns c =
     let q = c .args .q in
     let u = 2 ^ (c .args .s - 1) in
     let e : 2 ^ c .args .s ≡ 2 * u = doubled (c .args .s) (c .pre .1 .0) in
-    rw (weight c) (subst (λ (x : ℕ). (q + (u - 1) + q / x % 2) / x ≡ closest q x) (sym e) (sym (even-up q u (pow-pos (c .args .s - 1)))))
+    rw (weight c, and-mask (q / 2 ^ c .args .s) 1) (subst (λ (x : ℕ). (q + (u - 1) + q / x % 2) / x ≡ closest q x) (sym e) (sym (even-up q u (pow-pos (c .args .s - 1)))))
 
 pub nearest-even-spec : {M : Type 1} → statement M
 nearest-even-spec =

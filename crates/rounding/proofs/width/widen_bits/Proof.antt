@@ -1,7 +1,8 @@
 -- `rounding::width::widen_bits` meets its contract: each way out is a law of `proofs/Widening.antt`. Assumes nothing.
 use borrow.Author.Needs.{needs}
 use mathlib.Core.Path.{_≡_, sym, ap₂, subst}
-use Prim.Native.Nat.{ℕ, _+_, _-_, _*_, _%_, _^_, _<_}
+use mathlib.Core.Logic.{_≢_}
+use Prim.Native.Nat.{ℕ, _+_, _-_, _*_, _/_, _%_, _^_, _<_}
 use native.Mathlib.Nat.{mod-eq-of-lt}
 use native.Mathlib.Omega.{arith}
 use lib.Count.{leadingZeros, leading-le}
@@ -26,7 +27,7 @@ returns : tie.Need-returns
 returns c =
     let b = c .before .args .b in
     let l : b * 2 ^ 29 < 2 ^ 64 = omega (arith, c .before .pre) in
-    subst (λ (y : ℕ). Widens b (y + 896 * 2 ^ 52)) (sym (mod-eq-of-lt l)) (normal b (c .if1 .taken) (c .before .pre))
+    subst (λ (y : ℕ). Widens b (y + 896 * 2 ^ 52)) (sym (mod-eq-of-lt l)) (normal b (let n : b / 2 ^ 23 ≢ 0 = c .if1 .taken in omega arith) (c .before .pre))
 
 returns-2 : tie.Need-returns-2
 returns-2 c = none (c .before .before .args .b) (c .if2 .taken)

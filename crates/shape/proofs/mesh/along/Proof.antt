@@ -2,6 +2,7 @@
 use mathlib.Core.Path.{ap, _∙_, subst}
 use lib.Ieee.{Float, ofBits}
 use Rattle.rounding.specs.Root.{PositiveRoot}
+use Rattle.rounding.specs.Laws.NearOne.{near-positive}
 use Rattle.vector.specs.Coords.{normalizeOr, normalizeOrZero, vectorAdd}
 use Rattle.vector.specs.Geometry.{horizontalOf}
 use Rattle.vector.specs.Laws.{over-root}
@@ -33,7 +34,8 @@ returns c =
     let near = c .before .before .before .root-near-one in
     let t = c .before .before .before .before .before .horizontal .result in
     let e = c .before .before .before .before .before .horizontal .ensures ∙ ap horizontalOf (c .before .before .before .before .before .before .vector-at .ensures) in
-    let h = subst (λ (x : Float). PositiveRoot x (near .result .root)) (c .before .before .before .before .length-squared .ensures) (near .ensures (c .before .before .if1 .taken)) in
+    let p = near-positive _ (near .result .root) (near .result .is) (near .ensures .0) (near .ensures .1) (c .before .before .if1 .taken) in
+    let h = subst (λ (x : Float). PositiveRoot x (near .result .root)) (c .before .before .before .before .length-squared .ensures) p in
     let way = normalizeOrZero (vectorAdd (s .args .inc) (s .args .out)) in
     c .mul .ensures ∙ over-root t way (near .result .root) h ∙ ap (λ (v : Vector). normalizeOr v way) e
 

@@ -3,6 +3,7 @@ use borrow.Author.Needs.{needs}
 use mathlib.Core.Path.{_∙_, subst}
 use lib.Ieee.{Float, ofBits}
 use Rattle.rounding.specs.Root.{PositiveRoot}
+use Rattle.rounding.specs.Laws.NearOne.{near-positive}
 use Rattle.vector.specs.Laws.{over-root}
 use Rattle.vector.proofs.coords.Vector.normalize_or.Statement.{statement}
 use Rattle.vector.proofs.coords.Vector.normalize_or.Tie as tie
@@ -21,7 +22,8 @@ unfolding ofBits
 returns c =
     let s = c .before .before .before .before .before in
     let near = c .before .before .before .root-near-one in
-    let h = subst (λ (x : Float). PositiveRoot x (near .result .root)) (c .before .before .before .before .length-squared .ensures) (near .ensures (c .before .before .if1 .taken)) in
+    let p = near-positive _ (near .result .root) (near .result .is) (near .ensures .0) (near .ensures .1) (c .before .before .if1 .taken) in
+    let h = subst (λ (x : Float). PositiveRoot x (near .result .root)) (c .before .before .before .before .length-squared .ensures) p in
     c .mul .ensures ∙ over-root (s .args .self) (s .args .fallback) (near .result .root) h
 
 normalize-any-requires : tie.Need-normalize-any-requires
