@@ -12,7 +12,8 @@ use Rattle.vector.specs.declared.coords.Point.{Point}
 use Rattle.lookup.specs.Mesh.{cornersOf}
 use Rattle.lookup.specs.Box.{aroundOf, grownOf, grownBox, boxOf, mergeOf}
 use Rattle.lookup.specs.Index.{blockOf, blocksOf}
-use Rattle.lookup.specs.declared.mesh.Fetch.the-variants.{Corners}
+use Rattle.lookup.specs.declared.mesh.Fetch.{Fetch}
+use Rattle.lookup.specs.declared.mesh.Fetch.the-variants.{Corners, Missing}
 use Rattle.lookup.specs.declared.grid.Frame.{Frame}
 use Rattle.lookup.specs.declared.grid.Block.{Block}
 use Rattle.lookup.specs.Steps.{Picked, Sound}
@@ -80,18 +81,18 @@ module _ (pick : Float → Float → Float) (x y z p r : Float) (one : Picked pi
 module _ (a b c : Point) (l₁ l₂ l₃ l₄ u₁ u₂ u₃ u₄ : Float)
     (A : Picked minOf (a .x) (b .x) l₁) (B : Picked minOf l₁ (c .x) l₂) (C : Picked minOf (a .y) (b .y) l₃) (D : Picked minOf l₃ (c .y) l₄)
     (E : Picked maxOf (a .x) (b .x) u₁) (F : Picked maxOf u₁ (c .x) u₂) (G : Picked maxOf (a .y) (b .y) u₃) (H : Picked maxOf u₃ (c .y) u₄) where
-  pub leveled : IsNum (a .x) → IsNum (a .y) → _≡_ {A = Bounds} (record { «min_x» = l₂; «min_y» = l₄; «max_x» = u₂; «max_y» = u₄ }) (aroundOf a b c)
+  leveled : IsNum (a .x) → IsNum (a .y) → _≡_ {A = Bounds} (record { «min_x» = l₂; «min_y» = l₄; «max_x» = u₂; «max_y» = u₄ }) (aroundOf a b c)
   unfolding aroundOf
   leveled nx ny = rw (three minOf (a .x) (b .x) (c .x) l₁ l₂ A B nx, three minOf (a .y) (b .y) (c .y) l₃ l₄ C D ny, three maxOf (a .x) (b .x) (c .x) u₁ u₂ E F nx, three maxOf (a .y) (b .y) (c .y) u₃ u₄ G H ny)
 
   pub boxed : ne l₂ l₂ ≡ false → (let s = add binary32 (sub binary32 u₂ l₂) (sub binary32 u₄ l₄) in ne s s ≡ false)
-      → (_≡_ {A = Bounds} (record { «min_x» = l₂; «min_y» = l₄; «max_x» = u₂; «max_y» = u₄ }) (aroundOf a b c)) × IsNum (a .x) × IsNum (a .y)
+      → _≡_ {A = Bounds} (record { «min_x» = l₂; «min_y» = l₄; «max_x» = u₂; «max_y» = u₄ }) (aroundOf a b c)
   boxed e s =
       let nx : IsNum (a .x) = three-back minOf (a .x) (b .x) (c .x) l₁ l₂ A B (num-of-same l₂ e) in
       let d = sub binary32 u₄ l₄ in
       let ns : IsNum d = add-num-right binary32 (sub binary32 u₂ l₂) d (num-of-same (add binary32 (sub binary32 u₂ l₂) d) s) in
       let ny : IsNum (a .y) = three-back minOf (a .y) (b .y) (c .y) l₃ l₄ C D (sub-num-right binary32 u₄ l₄ ns) in
-      (leveled nx ny, nx, ny)
+      leveled nx ny
 
 pub merged : (a b : Bounds) (l m u v : Float) → Sound a
     → Picked minOf (a .«min_x») (b .«min_x») l → Picked minOf (a .«min_y») (b .«min_y») m → Picked maxOf (a .«max_x») (b .«max_x») u → Picked maxOf (a .«max_y») (b .«max_y») v
@@ -129,3 +130,8 @@ box-quick vs is t a b c e g h i j = ap grownBox h ∙ ap (λ (x : Bounds). Box (
 pub block-quick : (vs : List Float) (is : List ℕ) (f : Frame) (t : ℕ) (a b c : Point) (e g : Bounds) (r : Block) → cornersOf vs is t ≡ Corners a b c → e ≡ aroundOf a b c → g ≡ grownOf e → r ≡ blockOf f (Box g) → r ≡ blocksOf vs is f t
 unfolding blocksOf
 block-quick vs is f t a b c e g r h i j k = k ∙ ap (blockOf f) (sym (box-quick vs is t a b c e g h i j))
+
+-- and the block of one that is missing
+pub block-missing : (vs : List Float) (is : List ℕ) (f : Frame) (t : ℕ) → Missing ≡ cornersOf vs is t → _≡_ {A = Block} (record { left = 1; right = 0; low = 1; high = 0 }) (blocksOf vs is f t)
+unfolding blocksOf blockOf boxOf grownBox
+block-missing vs is f t h = ap (λ (x : Fetch). blockOf f (grownBox x)) h

@@ -1,8 +1,9 @@
--- One triangle more is tallied: whatever it is, and where all so far are plain. Assumes nothing.
-use mathlib.Core.Path.{_≡_, refl, sym, _∙_, subst}
-use mathlib.Core.Bool.{Bool, true, false, not, cond}
+-- One triangle more is tallied: whatever it is, and where the extent so far has no NaN. Assumes nothing.
+use mathlib.Core.Path.{_≡_, refl, sym, ap, _∙_, subst}
+use mathlib.Core.Bool.{Bool, true, false, not, cond, true≢false}
 use mathlib.Core.List.{List}
 use Prim.Native.Nat.{ℕ, zero, suc, _+_, _≤_, _<_}
+use native.Mathlib.Nat.{add-zero}
 use native.Mathlib.Numerals.{add-one}
 use native.Mathlib.Omega.{arith}
 use lib.Dec.{T, ltb, ltb→lt, nltb→le}
@@ -14,15 +15,14 @@ use Rattle.rounding.specs.Laws.Sums.{add-num-left, add-num-right}
 use Rattle.vector.specs.Single.{_⊕_, _⊖_, 0f}
 use Rattle.vector.specs.declared.coords.Point.{Point}
 use Rattle.lookup.specs.Mesh.{triangles, cornersOf}
-use Rattle.lookup.specs.Box.{aroundOf, grownOf, boxOf, mergeOf}
+use Rattle.lookup.specs.Box.{aroundOf, grownOf, grownBox, boxOf, mergeOf}
 use Rattle.lookup.specs.Frame.{joinOf, oneOf, boxesOf, extentOf}
-use Rattle.lookup.specs.Steps.{Picked, Sound, Tallied, PlainAt, AllPlain, Fits, Narrow}
-use Rattle.lookup.specs.declared.mesh.Fetch.the-variants.{Corners}
+use Rattle.lookup.specs.Steps.{Picked, Sound, Tallied, Fits, Narrow}
+use Rattle.lookup.specs.declared.mesh.Fetch.the-variants.{Corners, Missing}
 use Rattle.lookup.specs.declared.grid.Bounds.{Bounds}
 use Rattle.lookup.specs.declared.grid.Boxed.{Boxed}
 use Rattle.lookup.specs.declared.grid.Boxed.the-variants.{Box, None}
-use Rattle.lookup.proofs.Turns.{there}
-use Rattle.lookup.proofs.Picking.{box-inj, box-quick}
+use Rattle.lookup.proofs.Picking.{box-inj, none-no-box, box-quick}
 
 pub one-le : (b : Boxed) → oneOf b ≤ 1
 unfolding oneOf
@@ -34,18 +34,33 @@ unfolding boxesOf
 boxes-le vs is zero = omega arith
 boxes-le vs is (suc t) = omega (arith, boxes-le vs is t, one-le (boxOf vs is t))
 
-pub tally-next : (vs : List Float) (is : List ℕ) (t count o : ℕ) (extent b j : Boxed) → Tallied vs is t count extent → b ≡ boxOf vs is t → o ≡ oneOf b → j ≡ joinOf extent b
-    → Tallied vs is (t + 1) (count + o) j
-unfolding boxesOf extentOf
-tally-next vs is t count o extent b j h e p q = record { counts = rw (add-one, p, e, h .counts); around = rw (add-one, q, e, h .around) }
+-- the box of a triangle whose corners are there, and of one that is missing
+pub box-there : (vs : List Float) (is : List ℕ) (t : ℕ) (a b c : Point) (e g : Bounds) → Corners a b c ≡ cornersOf vs is t → e ≡ aroundOf a b c → g ≡ grownOf e → boxOf vs is t ≡ Box g
+box-there vs is t a b c e g f i j = box-quick vs is t a b c e g (sym f) i j
+
+box-missing : (vs : List Float) (is : List ℕ) (t : ℕ) → Missing ≡ cornersOf vs is t → boxOf vs is t ≡ None
+unfolding boxOf grownBox
+box-missing vs is t f = ap grownBox (sym f)
+
+join-none : (e : Boxed) → joinOf e None ≡ e
+unfolding joinOf
+join-none (Box a) = refl
+join-none None = refl
+
+module _ (vs : List Float) (is : List ℕ) (t count : ℕ) (extent : Boxed) (h : Tallied vs is t count extent) where
+  pub tally-passed : Missing ≡ cornersOf vs is t → Tallied vs is (t + 1) count extent
+  unfolding boxesOf extentOf oneOf
+  tally-passed f =
+      let n = box-missing vs is t f in
+      record { counts = rw (add-one t, n, add-zero (boxesOf vs is t)) (h .counts); around = rw (add-one t, n, join-none (extentOf vs is t)) (h .around) }
+
+  pub tally-next : (g : Bounds) (j : Boxed) → boxOf vs is t ≡ Box g → j ≡ joinOf extent (Box g) → Tallied vs is (t + 1) (count + 1) j
+  unfolding boxesOf extentOf oneOf
+  tally-next g j e q = record { counts = rw (add-one t, e, h .counts); around = rw (add-one t, e, ← h .around) q }
 
 tally-first : (vs : List Float) (is : List ℕ) (b : Bounds) → boxOf vs is 0 ≡ Box b → Tallied vs is 1 1 (Box b)
 unfolding boxesOf extentOf joinOf oneOf
 tally-first vs is b e = record { counts = rw e; around = rw e }
-
-tally-box : (vs : List Float) (is : List ℕ) (t count : ℕ) (x g w : Bounds) → Tallied vs is t count (Box x) → boxOf vs is t ≡ Box g → w ≡ mergeOf x g → Tallied vs is (t + 1) (count + 1) (Box w)
-unfolding boxesOf extentOf joinOf oneOf
-tally-box vs is t count x g w h e j = record { counts = rw (add-one t, e, h .counts); around = rw (add-one t, e, ← h .around, j) }
 
 -- ---- a box around itself
 
@@ -70,31 +85,31 @@ merge-same : (b : Bounds) → mergeOf b b ≡ b
 unfolding mergeOf
 merge-same b = rw (min-same (b .«min_x»), max-same (b .«max_x»), min-same (b .«min_y»), max-same (b .«max_y»))
 
--- ---- plain triangles
+-- ---- an extent without a NaN
 
--- the first t triangles are plain. `start` is the box of triangle 0
-pub record Plains (vs : List Float) (is : List ℕ) (start : Bounds) (t : ℕ) (extent : Bounds) (width height : Float) : Type 0 where
+-- the first t triangles are tallied and measured. `start` is the box of triangle 0
+pub record Measured (vs : List Float) (is : List ℕ) (start : Bounds) (t count : ℕ) (extent : Bounds) (narrow : Bool) (width height : Float) : Type 0 where
   pub sound : Sound extent
+  pub few : count ≤ t
+  pub none-yet : t ≡ 0 → (extent ≡ start) × (count ≡ 0)
+  pub tallied : 0 < t → Tallied vs is t count (Box extent)
   pub num-w : IsNum width
   pub num-h : IsNum height
-  pub none-yet : t ≡ 0 → extent ≡ start
-  pub tallied : 0 < t → Tallied vs is t t (Box extent)
-  pub plain : (k : ℕ) → k < t → PlainAt vs is k
-  pub narrow : Narrow vs is t width height
+  pub fit : narrow ≡ true → Narrow vs is t width height
 
 zero-num : IsNum 0f
 unfolding ofBits
 zero-num = tt
 
-pub plain-none : (vs : List Float) (is : List ℕ) (start : Bounds) → Sound start → Plains vs is start 0 start 0f 0f
-plain-none vs is start s = record {
+pub measured-none : (vs : List Float) (is : List ℕ) (start : Bounds) → Sound start → Measured vs is start 0 0 start true 0f 0f
+measured-none vs is start s = record {
   sound = s;
+  few = omega arith;
+  none-yet = λ _. (refl, refl);
+  tallied = λ h. absurd (omega arith);
   num-w = zero-num;
   num-h = zero-num;
-  none-yet = λ _. refl;
-  tallied = λ h. absurd (omega arith);
-  plain = λ k l. absurd (omega arith);
-  narrow = λ k l. absurd (omega arith);
+  fit = λ _ k l. absurd (omega arith);
 }
 
 one-more : (P : ℕ → Type 0) (t : ℕ) → ((k : ℕ) → k < t → P k) → P t → (k : ℕ) → k < t + 1 → P k
@@ -108,45 +123,87 @@ one-more P t h p k l = go (ltb k t) (ltb→lt k t) (nltb→le k t)
 larger : (x y r : Float) → IsNum x → IsNum y → Picked maxOf x y r → T (le x r) × T (le y r)
 larger x y r p q h = rw (h .is p) (max-picks x y .left p, max-picks x y .right q)
 
-tally-merged : (vs : List Float) (is : List ℕ) (start : Bounds) (t : ℕ) (x g w : Bounds) → (t ≡ 0 → x ≡ start) → (0 < t → Tallied vs is t t (Box x))
-    → boxOf vs is 0 ≡ Box start → boxOf vs is t ≡ Box g → w ≡ mergeOf x g → Tallied vs is (t + 1) (t + 1) (Box w)
-tally-merged vs is start zero x g w n h z e j =
-    let p : g ≡ start = box-inj start g (sym z ∙ e) in
-    let q : w ≡ start = j ∙ rw (n refl, p) (merge-same start) in
-    tally-first vs is w (rw q z)
-tally-merged vs is start (suc t) x g w n h z e j = tally-box vs is (suc t) (suc t) x g w (h (omega arith)) e j
+module _
+    (vs : List Float)
+    (is : List ℕ)
+    (start : Bounds)
+    (t count : ℕ)
+    (x : Bounds)
+    (narrow : Bool)
+    (width height : Float)
+    (z : boxOf vs is 0 ≡ Box start)
+    (h : Measured vs is start t count x narrow width height)
+  where
+    -- a triangle that is missing is not the first
+    not-first : (k : ℕ) → Missing ≡ cornersOf vs is k → k ≡ 0 → ⊥
+    not-first k f e = none-no-box start (sym (box-missing vs is k f) ∙ ap (boxOf vs is) e ∙ z)
 
-module _ (vs : List Float) (is : List ℕ) (start : Bounds) (t : ℕ) (x : Bounds) (width height : Float) (a b c : Point) (e g w : Bounds) (r s : Float) where
-  pub plain-next : Plains vs is start t x width height → boxOf vs is 0 ≡ Box start
-      → Corners a b c ≡ cornersOf vs is t → (e ≡ aroundOf a b c) × IsNum (a .x) × IsNum (a .y) → g ≡ grownOf e
-      → (w ≡ mergeOf x g) × Sound w
-      → (let both = (g .«max_x» ⊖ g .«min_x») ⊕ (g .«max_y» ⊖ g .«min_y») in ne both both ≡ false)
-      → Picked maxOf width (g .«max_x» ⊖ g .«min_x») r → Picked maxOf height (g .«max_y» ⊖ g .«min_y») s
-      → Plains vs is start (t + 1) w r s
-  plain-next h z f q i m n u v =
-      let wide = g .«max_x» ⊖ g .«min_x» in
-      let high = g .«max_y» ⊖ g .«min_y» in
-      let p : IsNum (wide ⊕ high) = num-of-same (wide ⊕ high) n in
-      let lw = larger width wide r (h .num-w) (add-num-left _ wide high p) u in
-      let lh = larger height high s (h .num-h) (add-num-right _ wide high p) v in
-      let k = there vs is t f in
-      let y : boxOf vs is t ≡ Box g = box-quick vs is t a b c e g (sym f) (q .0) i in
-      record {
+    pub measured-passed : Missing ≡ cornersOf vs is t → Measured vs is start (t + 1) count x narrow width height
+    measured-passed f = record {
+      sound = h .sound;
+      few = omega (arith, h .few);
+      none-yet = λ e. absurd (omega arith);
+      tallied = λ _. tally-passed vs is t count (Box x) (h .tallied (positive t (not-first t f))) f;
+      num-w = h .num-w;
+      num-h = h .num-h;
+      fit = λ n. one-more (λ (k : ℕ). (o : Bounds) → boxOf vs is k ≡ Box o → Fits o width height) t (h .fit n) (λ o j. none-no-box o (sym (box-missing vs is t f) ∙ j));
+    }
+      where
+        positive : (k : ℕ) → (k ≡ 0 → ⊥) → 0 < k
+        positive zero n = absurd (n refl)
+        positive (suc k) n = omega arith
+
+    -- the extent of one more, which is the first or not
+    merged-next : (k : ℕ) → k ≡ t → (g w : Bounds) → boxOf vs is t ≡ Box g → w ≡ mergeOf x g → Tallied vs is (t + 1) (count + 1) (Box w)
+    unfolding joinOf
+    merged-next zero q g w e j =
+        let o = h .none-yet (sym q) in
+        let p : g ≡ start = box-inj start g (sym z ∙ ap (boxOf vs is) q ∙ e) in
+        let y : w ≡ start = j ∙ rw (o .0, p) (merge-same start) in
+        rw (o .1, ← q) (tally-first vs is w (rw y z))
+    merged-next (suc k) q g w e j = tally-next vs is t count (Box x) (h .tallied (omega arith)) g (Box w) e (ap Box j)
+
+    module _ (a b c : Point) (e g w : Bounds) (f : Corners a b c ≡ cornersOf vs is t) (i : e ≡ aroundOf a b c) (j : g ≡ grownOf e) (m : (w ≡ mergeOf x g) × Sound w) where
+      -- one whose sides are NaN
+      pub measured-nan : Measured vs is start (t + 1) (count + 1) w false width height
+      measured-nan = record {
         sound = m .1;
-        num-w = u .num (h .num-w);
-        num-h = v .num (h .num-h);
+        few = omega (arith, h .few);
         none-yet = λ o. absurd (omega arith);
-        tallied = λ _. tally-merged vs is start t x g w (h .none-yet) (h .tallied) z y (m .0);
-        plain = one-more (PlainAt vs is) t (h .plain) (record { there = k .0; num-x = subst (λ (o : Point). IsNum (o .x)) (k .1) (q .1); num-y = subst (λ (o : Point). IsNum (o .y)) (k .1) (q .2) });
-        narrow =
-            one-more (λ (k : ℕ). (o : Bounds) → boxOf vs is k ≡ Box o → Fits o r s) t
-            (λ k l o j. let d = h .narrow k l o j in record { wide = le-trans _ width r (d .wide) (lw .0); high = le-trans _ height s (d .high) (lh .0) })
-            (λ o j. subst (λ (o : Bounds). Fits o r s) (sym (box-inj g o (sym y ∙ j))) (record { wide = lw .1; high = lh .1 }));
+        tallied = λ _. merged-next t refl g w (box-there vs is t a b c e g f i j) (m .0);
+        num-w = h .num-w;
+        num-h = h .num-h;
+        fit = λ n. absurd (true≢false (sym n));
       }
 
-pub plain-all : (vs : List Float) (is : List ℕ) (start : Bounds) (t n : ℕ) (extent : Bounds) (width height : Float) → Plains vs is start t extent width height
-    → t ≡ triangles is → n ≡ triangles is → 0 < triangles is
-    → Tallied vs is (triangles is) n (Box extent) × (true ≡ true → AllPlain vs is × Narrow vs is (triangles is) width height)
-plain-all vs is start t n extent width height h e d z =
-    let k : Plains vs is start (triangles is) extent width height = subst (λ (m : ℕ). Plains vs is start m extent width height) e h in
-    (rw d (k .tallied z), λ _. (k .plain, k .narrow))
+      -- one whose sides are numbers
+      pub measured-next : (r s : Float)
+          → (let both = (g .«max_x» ⊖ g .«min_x») ⊕ (g .«max_y» ⊖ g .«min_y») in ne both both ≡ false)
+          → Picked maxOf width (g .«max_x» ⊖ g .«min_x») r → Picked maxOf height (g .«max_y» ⊖ g .«min_y») s
+          → Measured vs is start (t + 1) (count + 1) w narrow r s
+      measured-next r s n u v =
+          let wide = g .«max_x» ⊖ g .«min_x» in
+          let high = g .«max_y» ⊖ g .«min_y» in
+          let p : IsNum (wide ⊕ high) = num-of-same (wide ⊕ high) n in
+          let lw = larger width wide r (h .num-w) (add-num-left _ wide high p) u in
+          let lh = larger height high s (h .num-h) (add-num-right _ wide high p) v in
+          let y : boxOf vs is t ≡ Box g = box-there vs is t a b c e g f i j in
+          record {
+            sound = m .1;
+            few = omega (arith, h .few);
+            none-yet = λ o. absurd (omega arith);
+            tallied = λ _. merged-next t refl g w y (m .0);
+            num-w = u .num (h .num-w);
+            num-h = v .num (h .num-h);
+            fit =
+                λ b. one-more (λ (k : ℕ). (o : Bounds) → boxOf vs is k ≡ Box o → Fits o r s) t
+                (λ k l o q. let d = h .fit b k l o q in record { wide = le-trans _ width r (d .wide) (lw .0); high = le-trans _ height s (d .high) (lh .0) })
+                (λ o q. subst (λ (o : Bounds). Fits o r s) (sym (box-inj g o (sym y ∙ q))) (record { wide = lw .1; high = lh .1 }));
+          }
+
+pub measured-all : (vs : List Float) (is : List ℕ) (start : Bounds) (t count : ℕ) (extent : Bounds) (narrow : Bool) (width height : Float) → Measured vs is start t count extent narrow width height
+    → t ≡ triangles is → 0 < triangles is
+    → Tallied vs is (triangles is) count (Box extent) × (narrow ≡ true → Narrow vs is (triangles is) width height)
+measured-all vs is start t count extent narrow width height h e z =
+    let k : Measured vs is start (triangles is) count extent narrow width height = subst (λ (m : ℕ). Measured vs is start m count extent narrow width height) e h in
+    (k .tallied z, k .fit)

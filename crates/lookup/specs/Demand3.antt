@@ -9,8 +9,8 @@ use lib.Dec.{T}
 use lib.ListN.{length, take}
 use lib.Ieee.{Float, le}
 use Rattle.vector.specs.declared.coords.Vector.{Vector}
-use Rattle.shape.specs.Lists.{Mesh, wordOf}
-use Rattle.shape.specs.Refusal.{taken, refused, leaves}
+use Rattle.shape.specs.Lists.{Mesh, wordOf, meshFault}
+use Rattle.shape.specs.Refusal.{fine, taken, refused, leaves}
 use Rattle.shape.specs.SurfaceMesh.{Given, lanesOf, indexOf, meshOf}
 use Rattle.lookup.specs.declared.sampler.Lane.{Lane}
 use Rattle.lookup.specs.declared.sampler.Lane.the-variants.{Id}
@@ -46,25 +46,36 @@ pub record NamesLane (g : Given) (t : ℕ) (l : Lane) : Type 0 where
   pub in-strip : InStrip g t of
   pub named : l ≡ Id (idOf g of)
 
--- ---- the demand, over a mesh, words and a point
+-- ---- the demand
 
-pub record Demand3 (m : Mesh) (ws : List ℕ) (x y : Float) : Type 0 where
-  -- the plain lookup gives the winner with its height and its normal, where no covering height is a NaN
-  pub plain : NoNan m x y → (l : Lookup) → answerOf m x y ≡ taken l → Right m x y l
-  -- and none exactly where no triangle covers the point, NaN or not
-  pub plain-none : (l : Lookup) → answerOf m x y ≡ taken l → (l ≡ none) ↔ Uncovered m x y
-  -- the words are never foreign to the mesh
-  pub never-foreign : (place : ℕ) → topOf m ws x y ≡ refused 4 place → ⊥
-  -- nothing else turns a call back, either lookup's, while the words are within their limit
-  pub plain-taken : (number place : ℕ) → answerOf m x y ≡ refused number place → ⊥
-  pub indexed-taken : length ws ≤ 4194304 → (number place : ℕ) → topOf m ws x y ≡ refused number place → ⊥
-  -- the indexed lookup gives none where the plain one does
+-- of the indexed lookup in any words
+pub record InWords (m : Mesh) (ws : List ℕ) (x y : Float) : Type 0 where
+  -- it gives none where the plain lookup does
   pub indexed-none : answerOf m x y ≡ taken none → (s : Sample) → topOf m ws x y ≡ taken s → s ≡ miss
   -- it is never higher
   pub never-higher : NoNan m x y → (h : Float) (n : Vector) (k : ℕ) → answerOf m x y ≡ taken (gives h n k)
       → (h′ : Float) (n′ : Vector) (k′ : ℕ) (l : Lane) → topOf m ws x y ≡ taken (hit h′ n′ k′ l) → T (le h′ h)
-  -- where the winner's grown box holds the point it gives the winner, and both lookups the same
-  pub winner : NoNan m x y → (k : ℕ) → Wins m x y k → inBox (m .vertices) (m .indices) k x y ≡ true → (s : Sample) → topOf m ws x y ≡ taken s
-      → (s ≡ hit (height m x y k) (normal m x y k) k (laneOf (m .spans) k)) × (answerOf m x y ≡ taken (lookupIn s))
   -- over a mesh that came from lanes it names the lane whose strip holds the triangle
   pub lane : (g : Given) → m ≡ meshOf g → (h : Float) (n : Vector) (t : ℕ) (l : Lane) → topOf m ws x y ≡ taken (hit h n t l) → NamesLane g t l
+
+-- of the indexed lookup in words built from the mesh
+pub record InBuilt (m : Mesh) (ws : List ℕ) (x y : Float) : Type 0 where
+  -- the words are never foreign to the mesh
+  pub never-foreign : (place : ℕ) → topOf m ws x y ≡ refused 4 place → ⊥
+  -- nothing else turns a call back either, while the words are within their limit
+  pub indexed-taken : length ws ≤ 4194304 → (number place : ℕ) → topOf m ws x y ≡ refused number place → ⊥
+  -- where the winner's grown box holds the point it gives the winner, and both lookups the same. There is no winner where a covering height is a NaN
+  pub winner : (k : ℕ) → Wins m x y k → inBox (m .vertices) (m .indices) k x y ≡ true → (s : Sample) → topOf m ws x y ≡ taken s
+      → (s ≡ hit (height m x y k) (normal m x y k) k (laneOf (m .spans) k)) × (answerOf m x y ≡ taken (lookupIn s))
+
+-- the demand, for every mesh and point
+pub record Demand3 (m : Mesh) (x y : Float) : Type 0 where
+  -- a mesh without a fault is never turned back by the plain lookup
+  pub plain-taken : meshFault m ≡ fine → (number place : ℕ) → answerOf m x y ≡ refused number place → ⊥
+  -- which gives the winner with its height and its normal, where no covering height is a NaN
+  pub plain : NoNan m x y → (l : Lookup) → answerOf m x y ≡ taken l → Right m x y l
+  -- and none exactly where no triangle covers the point, NaN or not
+  pub plain-none : (l : Lookup) → answerOf m x y ≡ taken l → (l ≡ none) ↔ Uncovered m x y
+  -- the indexed lookup, in any words and in those built from the mesh
+  pub in-words : (ws : List ℕ) → InWords m ws x y
+  pub in-built : (ws : List ℕ) → BuiltFrom m ws → InBuilt m ws x y

@@ -1,6 +1,6 @@
--- Demand 3, the indexed lookup, for an index that was built from the mesh, with the plain lookup beside it. It is never refused as foreign; it gives none
--- where the plain lookup gives none and is never higher; and where the winner's grown box holds the point it gives the winner, as the plain lookup does.
--- Assumes nothing.
+-- Demand 3: the indexed lookup, with the plain one of Laws.Plain beside it. Whatever the index, it gives none where the plain lookup gives none, is never
+-- higher, and names the right lane. An index that was built from the mesh is never foreign to it, and where the winner's grown box holds the point the
+-- lookup in it gives the winner, as the plain lookup does. Assumes nothing.
 use Prim.Native.Nat.{ℕ, _+_, _-_, _≤_}
 use mathlib.Core.Path.{_≡_, refl, sym, ap, _∙_, subst}
 use mathlib.Core.Bool.{true}
@@ -25,15 +25,20 @@ use Rattle.lookup.specs.Winner.{Covers, height, normal, Wins, NoNan}
 use Rattle.lookup.specs.Index.{indexWords, buildOf, roomFault, answerTo, candidatesOf}
 use Rattle.lookup.specs.Consult.{Place, runIn, consultOf}
 use Rattle.lookup.specs.Sampler.{laneOf, Sample, hit, miss, lookupIn, sampleOf, sampleIn, onward, topFault, topOf}
-use Rattle.lookup.specs.Demand3.{BuiltFrom, NamesLane, Demand3}
+use Rattle.lookup.specs.Demand3.{BuiltFrom, NamesLane, InWords, InBuilt, Demand3}
 use Rattle.lookup.specs.Laws.Heads.{passed}
-use Rattle.lookup.specs.Laws.Plain.{bestOf, covers-below, answer-right, answer-none, plain-winner, run-none, run-never-higher, run-winner}
+use Rattle.lookup.specs.Laws.Plain.{bestOf, covers-below, answer-right, answer-none, plain-winner, run-winner}
 use Rattle.lookup.specs.Laws.Scan.{scan-found}
 use Rattle.lookup.specs.Laws.Lanes.{strip-of, strip-lane}
 use Rattle.lookup.specs.Laws.Index.{Hands, hands, candidates-rise, candidate}
 use Rattle.lookup.specs.Laws.Limits.{judged, input-not-foreign, short-index}
 
 -- ---- what a taken building call leaves
+
+-- is an index built from the mesh: any memory before, and as many words kept as one likes, from the call's own on
+pub built-from : (m : Mesh) (before : List ℕ) (size kept : ℕ) → buildOf m (length before) ≡ taken size → size ≤ kept
+    → BuiltFrom m (take kept (leaves (buildOf m (length before)) (indexWords (m .vertices) (m .indices)) before))
+built-from m before size kept took enough = record { before = before; size = size; took = took; kept = kept; enough = enough; is = refl }
 
 one-taken : {A : Type 0} (a b : A) → taken a ≡ taken b → a ≡ b
 one-taken a b e = cc
@@ -122,6 +127,20 @@ module _ (m : Mesh) (ws : List ℕ) (x y : Float) (h : Float) (n : Vector) (t : 
       go (taken p) q = held-in (runIn ws p) (one-taken (sampleIn m x y (runIn ws p)) (hit h n t l) q)
       go (refused number place) q = let z : _≡_ {A = ℕ} 0 1 = cc in absurd (omega arith)
 
+-- ---- none where the plain lookup gives none, and never higher, whatever the index
+
+module _ (m : Mesh) (ws : List ℕ) (x y : Float) where
+  pub none-where-none : answerOf m x y ≡ taken none → (s : Sample) → topOf m ws x y ≡ taken s → s ≡ miss
+  none-where-none p (hit h n t l) e = absurd (answer-none m x y none p .0 refl t (hit-held m ws x y h n t l e .covered))
+  none-where-none p miss e = refl
+
+  pub never-higher : NoNan m x y → (h : Float) (n : Vector) (k : ℕ) → answerOf m x y ≡ taken (gives h n k)
+      → (h′ : Float) (n′ : Vector) (k′ : ℕ) (l : Lane) → topOf m ws x y ≡ taken (hit h′ n′ k′ l) → T (le h′ h)
+  never-higher nn h n k p h′ n′ k′ l e =
+      let r = answer-right m x y nn (gives h n k) p in
+      let g = hit-held m ws x y h′ n′ k′ l e in
+      rw (g .is-height, r .1) (r .0 .greatest k′ (g .covered))
+
 -- ---- the lane: over a mesh that came from lanes, a hit names the lane whose strip holds the triangle
 
 pub lane-named : (g : Given) (ws : List ℕ) (x y : Float) (h : Float) (n : Vector) (t : ℕ) (l : Lane)
@@ -165,67 +184,54 @@ module _ (m : Mesh) (ws : List ℕ) (b : BuiltFrom m ws) (x y : Float) where
       sym (one-taken (sampleIn m x y (candidatesOf (m .vertices) (m .indices) x y)) s
       (judged (topFault m ws) (taken (sampleIn m x y (candidatesOf (m .vertices) (m .indices) x y))) s (sym top-is ∙ e) .1))
 
-  -- ---- none where the plain lookup gives none
-
-  pub none-where-none : answerOf m x y ≡ taken none → (s : Sample) → topOf m ws x y ≡ taken s → s ≡ miss
-  unfolding sampleIn sampleOf
-  none-where-none p s e =
-      let c = candidatesOf (m .vertices) (m .indices) x y in
-      gave s e ∙ ap (sampleOf m x y) (run-none m x y (entryOf c) (length c) (answer-none m x y none p .0 refl))
-
-  -- ---- never higher
-
-  pub never-higher : NoNan m x y → (h : Float) (n : Vector) (k : ℕ) → answerOf m x y ≡ taken (gives h n k)
-      → (h′ : Float) (n′ : Vector) (k′ : ℕ) (l : Lane) → topOf m ws x y ≡ taken (hit h′ n′ k′ l) → T (le h′ h)
-  unfolding sampleIn sampleOf
-  never-higher nn h n k p h′ n′ k′ l e = go (bestOf m x y (entryOf c) (length c)) refl (gave (hit h′ n′ k′ l) e)
-    where
-      c : List ℕ
-      c = candidatesOf (m .vertices) (m .indices) x y
-
-      go : (s : Best) → bestOf m x y (entryOf (candidatesOf (m .vertices) (m .indices) x y)) (length (candidatesOf (m .vertices) (m .indices) x y)) ≡ s → hit h′ n′ k′ l ≡ sampleOf m x y s → T (le h′ h)
-      go (At g j) q z =
-          let r = answer-right m x y nn (gives h n k) p in
-          let u : h′ ≡ g = cc in
-          rw (u, r .1) (run-never-higher m x y (entryOf (candidatesOf (m .vertices) (m .indices) x y)) (length (candidatesOf (m .vertices) (m .indices) x y)) k (r .0) q)
-      go Nothing q z = let u : _≡_ {A = ℕ} 0 1 = cc in absurd (omega arith)
-
   -- ---- the winner, where its grown box holds the point
 
-  pub winner-in-box : NoNan m x y → (k : ℕ) → Wins m x y k → inBox (m .vertices) (m .indices) k x y ≡ true
+  pub winner-in-box : (k : ℕ) → Wins m x y k → inBox (m .vertices) (m .indices) k x y ≡ true
       → (s : Sample) → topOf m ws x y ≡ taken s → s ≡ hit (height m x y k) (normal m x y k) k (laneOf (m .spans) k)
   unfolding sampleIn sampleOf
-  winner-in-box nn k w i s e =
+  winner-in-box k w i s e =
       let c = candidatesOf (m .vertices) (m .indices) x y in
       let a = candidate (m .vertices) (m .indices) k x y i in
-      gave s e ∙ ap (sampleOf m x y) (run-winner m x y (entryOf c) (length c) nn (candidates-rise (m .vertices) (m .indices) x y) k w (a .at) (a .in-range) (a .is))
+      gave s e ∙ ap (sampleOf m x y) (run-winner m x y (entryOf c) (length c) (candidates-rise (m .vertices) (m .indices) x y) k w (a .at) (a .in-range) (a .is))
 
   -- so the two lookups give the same height, normal and triangle
-  pub same-answer : NoNan m x y → (k : ℕ) → Wins m x y k → inBox (m .vertices) (m .indices) k x y ≡ true
+  pub same-answer : (k : ℕ) → Wins m x y k → inBox (m .vertices) (m .indices) k x y ≡ true
       → (s : Sample) → topOf m ws x y ≡ taken s → answerOf m x y ≡ taken (lookupIn s)
   unfolding lookupIn answerOf judge
-  same-answer nn k w i s e =
-      rw (winner-in-box nn k w i s e, mesh-fine m (length (b .before)) (b .size) (b .took)) (ap taken (plain-winner m x y nn k w))
+  same-answer k w i s e =
+      rw (winner-in-box k w i s e, mesh-fine m (length (b .before)) (b .size) (b .took)) (ap taken (plain-winner m x y k w))
 
 -- ---- the demand
 
 not-both : {A : Type 0} {a : A} {number place : ℕ} {r : Answer A} → r ≡ taken a → r ≡ refused number place → ⊥
 not-both p q = let z : _≡_ {A = ℕ} 0 1 = cc in omega arith
 
-plain-taken : (m : Mesh) (ws : List ℕ) → BuiltFrom m ws → (x y : Float) (number place : ℕ) → answerOf m x y ≡ refused number place → ⊥
+plain-taken : (m : Mesh) (x y : Float) → meshFault m ≡ fine → (number place : ℕ) → answerOf m x y ≡ refused number place → ⊥
 unfolding answerOf judge
-plain-taken m ws b x y number place e = not-both {a = plainOf m x y} (rw (mesh-fine m (length (b .before)) (b .size) (b .took))) e
+plain-taken m x y f number place e = not-both {a = plainOf m x y} (rw f) e
 
-pub demand3 : (m : Mesh) (ws : List ℕ) → BuiltFrom m ws → (x y : Float) → Demand3 m ws x y
-demand3 m ws b x y =
+in-words : (m : Mesh) (ws : List ℕ) (x y : Float) → InWords m ws x y
+in-words m ws x y =
     record {
+      indexed-none = none-where-none m ws x y;
+      never-higher = never-higher m ws x y;
+      lane = λ g q h n t l e. lane-named g ws x y h n t l (subst (λ (o : Mesh). topOf o ws x y ≡ taken (hit h n t l)) q e);
+    }
+
+in-built : (m : Mesh) (ws : List ℕ) → BuiltFrom m ws → (x y : Float) → InBuilt m ws x y
+in-built m ws b x y =
+    record {
+      never-foreign = never-foreign m ws b x y;
+      indexed-taken = λ l number place e. not-both (top-taken m ws b x y l) e;
+      winner = λ k w i s e. (winner-in-box m ws b x y k w i s e, same-answer m ws b x y k w i s e);
+    }
+
+pub demand3 : (m : Mesh) (x y : Float) → Demand3 m x y
+demand3 m x y =
+    record {
+      plain-taken = plain-taken m x y;
       plain = answer-right m x y;
       plain-none = answer-none m x y;
-      never-foreign = never-foreign m ws b x y;
-      plain-taken = plain-taken m ws b x y;
-      indexed-taken = λ l number place e. not-both (top-taken m ws b x y l) e;
-      indexed-none = none-where-none m ws b x y;
-      never-higher = never-higher m ws b x y;
-      winner = λ nn k w i s e. (winner-in-box m ws b x y nn k w i s e, same-answer m ws b x y nn k w i s e);
-      lane = λ g q h n t l e. lane-named g ws x y h n t l (subst (λ (o : Mesh). topOf o ws x y ≡ taken (hit h n t l)) q e);
+      in-words = λ ws. in-words m ws x y;
+      in-built = λ ws b. in-built m ws b x y;
     }

@@ -11,7 +11,7 @@ use mathlib.Core.Logic.{_↔_}
 use borrow.Author.Tests.{ltb-true}
 use lib.Dec.{T}
 use lib.Ieee.{Float, le, eq}
-use Rattle.rounding.specs.Laws.Order.{num-not-nan, le-antisym, ge-of-eq}
+use Rattle.rounding.specs.Laws.Order.{num-not-nan, not-nan-num, le-num-left, le-antisym, ge-of-eq}
 use Rattle.shape.specs.Lists.{Mesh, meshFault}
 use Rattle.shape.specs.Refusal.{Fault, fine, fault, taken, judge}
 use Rattle.lookup.specs.declared.mesh.Best.{Best}
@@ -51,6 +51,10 @@ module _ (m : Mesh) (x y : Float) where
   numbers : NoNan m x y → Numbers (m .vertices) (m .indices) x y
   numbers nn j c = num-not-nan _ (nn j c)
 
+  -- where there is a winner, no covering height is a NaN
+  pub wins-no-nan : (k : ℕ) → Wins m x y k → NoNan m x y
+  wins-no-nan k w j c = not-nan-num (height m x y j) (le-num-left (height m x y j) (height m x y k) (w .greatest j c))
+
   -- there is one winner at most
   pub one-winner : (j k : ℕ) → Wins m x y j → Wins m x y k → j ≡ k
   one-winner j k v w =
@@ -86,8 +90,8 @@ module _ (m : Mesh) (x y : Float) where
   winner-of k w (gives h n j) r = let e = one-winner j k (r .0) w in rw (r .1, r .2, e)
   winner-of k w none r = absurd (r k (w .covered))
 
-  pub plain-winner : NoNan m x y → (k : ℕ) → Wins m x y k → plainOf m x y ≡ gives (height m x y k) (normal m x y k) k
-  plain-winner nn k w = winner-of k w (plainOf m x y) (plain-right nn)
+  pub plain-winner : (k : ℕ) → Wins m x y k → plainOf m x y ≡ gives (height m x y k) (normal m x y k) k
+  plain-winner k w = winner-of k w (plainOf m x y) (plain-right (wins-no-nan k w))
 
   -- none, NaN or not
   none-of : (s : Best) → Leading (m .vertices) (m .indices) x y (λ t. t) (triangles (m .indices)) s → lookupOf m x y s ≡ none → Uncovered m x y
@@ -119,50 +123,42 @@ module _ (m : Mesh) (x y : Float) where
   pub answer-none : (l : Lookup) → answerOf m x y ≡ taken l → (l ≡ none) ↔ Uncovered m x y
   answer-none l e = (λ g. plain-none .0 (answer-taken l e ∙ g), λ u. sym (answer-taken l e) ∙ plain-none .1 u)
 
-  -- ---- a scan over a run of triangle numbers
+  -- ---- a scan over a run of triangle numbers gives the winner, where the run rises and names it
 
-  module _ (seq : ℕ → ℕ) (n : ℕ) where
-    -- none where no triangle covers
-    pub run-none : Uncovered m x y → bestOf m x y seq n ≡ Nothing
-    run-none u = scan-nothing (m .vertices) (m .indices) x y seq n (λ q b. u (seq q))
+  module _
+      (seq : ℕ → ℕ)
+      (n : ℕ)
+      (rising : (p q : ℕ) → p < q → q < n → seq p < seq q)
+      (k : ℕ)
+      (w : Wins m x y k)
+      (q : ℕ)
+      (within : q < n)
+      (named : seq q ≡ k)
+    where
+      at-most : (p : ℕ) → (q < p → ⊥) → p < n → seq p ≤ k
+      at-most p not-above below = go (decLt p q)
+        where
+          go : Dec (p < q) → seq p ≤ k
+          go (yes l) = omega (arith, rising p q l within)
+          go (no l) = let e : p ≡ q = omega arith in rw (e, named) (omega arith)
 
-    -- never higher than the winner
-    pub run-never-higher : (k : ℕ) → Wins m x y k → {h : Float} {j : ℕ} → bestOf m x y seq n ≡ At h j → T (le h (height m x y k))
-    run-never-higher k w {h} {j} e =
-        let l = scan-found (m .vertices) (m .indices) x y seq n e in
-        subst (λ (z : Float). T (le z (height m x y k))) (sym (l .height)) (w .greatest j (l .covered))
+      covered-there : T (covers (m .vertices) (m .indices) (seq q) x y)
+      covered-there = subst (λ (j : ℕ). Covers m x y j) (sym named) (w .covered)
 
-    -- the winner, where the run rises and names it
-    module _
-        (nn : NoNan m x y)
-        (rising : (p q : ℕ) → p < q → q < n → seq p < seq q)
-        (k : ℕ)
-        (w : Wins m x y k)
-        (q : ℕ)
-        (within : q < n)
-        (named : seq q ≡ k)
-      where
-        at-most : (p : ℕ) → (q < p → ⊥) → p < n → seq p ≤ k
-        at-most p not-above below = go (decLt p q)
-          where
-            go : Dec (p < q) → seq p ≤ k
-            go (yes l) = omega (arith, rising p q l within)
-            go (no l) = let e : p ≡ q = omega arith in rw (e, named) (omega arith)
+      nn : NoNan m x y
+      nn = wins-no-nan k w
 
-        covered-there : T (covers (m .vertices) (m .indices) (seq q) x y)
-        covered-there = subst (λ (j : ℕ). Covers m x y j) (sym named) (w .covered)
+      same-leader : (s : Best) → Leading (m .vertices) (m .indices) x y seq n s → s ≡ At (height m x y k) k
+      same-leader Nothing l = absurd (l q within covered-there)
+      same-leader (At g j) l =
+          let up : T (le (height m x y k) (height m x y j)) = rw (named, l .height) at (l .greatest (numbers nn) q within covered-there) in
+          let down : T (le (height m x y j) (height m x y k)) = w .greatest j (l .covered) in
+          let low : k ≤ j = w .lowest j (l .covered) (le-antisym (height m x y j) (height m x y k) down up) in
+          let high : j ≤ k =
+          rw (l .named)
+          (at-most (l .at) (λ b. l .first (numbers nn) q b covered-there (rw (named, l .height) down)) (l .below)) in
+          let e : j ≡ k = omega arith in
+          rw (l .height, e)
 
-        same-leader : (s : Best) → Leading (m .vertices) (m .indices) x y seq n s → s ≡ At (height m x y k) k
-        same-leader Nothing l = absurd (l q within covered-there)
-        same-leader (At g j) l =
-            let up : T (le (height m x y k) (height m x y j)) = rw (named, l .height) at (l .greatest (numbers nn) q within covered-there) in
-            let down : T (le (height m x y j) (height m x y k)) = w .greatest j (l .covered) in
-            let low : k ≤ j = w .lowest j (l .covered) (le-antisym (height m x y j) (height m x y k) down up) in
-            let high : j ≤ k =
-            rw (l .named)
-            (at-most (l .at) (λ b. l .first (numbers nn) q b covered-there (rw (named, l .height) down)) (l .below)) in
-            let e : j ≡ k = omega arith in
-            rw (l .height, e)
-
-        pub run-winner : bestOf m x y seq n ≡ At (height m x y k) k
-        run-winner = same-leader (bestOf m x y seq n) (scan-leads (m .vertices) (m .indices) x y seq n)
+      pub run-winner : bestOf m x y seq n ≡ At (height m x y k) k
+      run-winner = same-leader (bestOf m x y seq n) (scan-leads (m .vertices) (m .indices) x y seq n)
