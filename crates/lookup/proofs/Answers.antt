@@ -5,7 +5,7 @@ use mathlib.Core.List.{List}
 use native.Mathlib.Omega.{arith}
 use lib.ListN.{length, take, drop}
 use lib.Ieee.{Float}
-use Rattle.shape.specs.Refusal.{fine, judge, taken, refused}
+use Rattle.shape.specs.Refusal.{fine, fault, judge, taken, refused}
 use Rattle.shape.specs.Lists.{Mesh}
 use Rattle.lookup.specs.declared.mesh.Best.{Best}
 use Rattle.lookup.specs.declared.mesh.Best.the-variants.{At, Nothing}
@@ -17,6 +17,10 @@ use Rattle.lookup.specs.Sixteen.{Small}
 use Rattle.lookup.specs.Laws.Scan.{scan-found}
 use Rattle.lookup.specs.Laws.Plain.{covers-below}
 use Rattle.lookup.specs.Laws.Limits.{InOrder, in-order, mesh-in-order}
+
+pub turned-back : (m : Mesh) (ws : List ℕ) (x y : Float) {n p : ℕ} → topFault m ws ≡ fault n p → refused n p ≡ topOf m ws x y
+unfolding topOf judge
+turned-back m ws x y e = rw e
 
 module _ (m : Mesh) (ws : List ℕ) (x y : Float) (f : topFault m ws ≡ fine) where
   pub ordered : InOrder m

@@ -1,4 +1,4 @@
--- The records of many points, written one after another, and what the call comes to. Assumes nothing.
+-- The records of many points, written one after another, and what the calls come to. Assumes nothing.
 use Prim.Native.Nat.{ℕ, zero, suc, _+_, _*_, _%_, _≤_, _<_}
 use mathlib.Core.Path.{_≡_, refl, ap, _∙_}
 use mathlib.Core.List.{List}
@@ -6,17 +6,17 @@ use native.Mathlib.Omega.{arith}
 use lib.Ieee.{Float, nan}
 use lib.ListN.{length, getD}
 use borrow.Author.Tests.{lt-ltb, le-ltb, eq-eqb, ne-eqb}
-use Rattle.shape.specs.declared.refusal.Refusal.{Refusal}
 use Rattle.shape.specs.Lists.{Mesh, uneven}
 use Rattle.shape.specs.Memory.{Put}
-use Rattle.shape.specs.Refusal.{fine, fault, refuse, Answer, taken, refused, judge, leaves, numberOf, placeOf}
+use Rattle.shape.specs.Refusal.{fine, fault, refuse, Answer, taken, refused, judge, leaves}
 use Rattle.shape.specs.Gather.{gather}
 use Rattle.shape.specs.Laws.Gather.{gather-even}
 use Rattle.shape.specs.Laws.Memory.{sets-front}
-use Rattle.lookup.specs.declared.sampler.Sampling.the-variants.{Count, Refused}
+use Rattle.lookup.specs.Mesh.{triangles}
+use Rattle.lookup.specs.Consult.{headFault}
 use Rattle.lookup.specs.Sampler.{Sample, hit, miss, topFault, topOf}
-use Rattle.lookup.specs.Batch.{recordOf, cutRecord, recordAt, recordsOf, pointsIn, pointsFault, topsOf, readSampling}
-use Rattle.lookup.specs.Laws.Batch.{uncut}
+use Rattle.lookup.specs.Batch.{recordOf, recordAt, recordsOf, pointsIn, countAnswer, topsOf}
+use Rattle.lookup.specs.Record.{roomFor}
 
 -- a record has eight words
 pub record-eight : (a : Answer Sample) → length (recordOf a) ≡ 8
@@ -25,14 +25,25 @@ record-eight (taken (hit h n t l)) = refl
 record-eight (taken miss) = refl
 record-eight (refused number place) = refl
 
-cut-eight : (a : Answer Sample) → length (cutRecord a) ≡ 8
-unfolding cutRecord
-cut-eight (taken (hit h n t l)) = refl
-cut-eight (taken miss) = refl
-cut-eight (refused number place) = refl
+pub record-next : (a : Answer Sample) {old now : List ℕ} {at next : ℕ} → Put old now at (recordOf a) next → next ≡ at + 8
+record-next a p = p .ends ∙ ap (_+_ _) (record-eight a)
 
-pub cut-next : (a : Answer Sample) {old now : List ℕ} {at next : ℕ} → Put old now at (cutRecord a) next → next ≡ at + 8
-cut-next a p = p .ends ∙ ap (_+_ _) (cut-eight a)
+-- ---- one point
+
+module _ (n : ℕ) (old : List ℕ) where
+  pub front-short : length old < 8 → (r : List ℕ) → (refused 3 8 ≡ roomFor n (length old)) × (old ≡ leaves (roomFor n (length old)) r old)
+  unfolding roomFor judge leaves refuse
+  front-short h r = (rw (lt-ltb (length old) 8 h), rw (lt-ltb (length old) 8 h))
+
+  pub front-put : (a : Answer Sample) {now : List ℕ} {next : ℕ} → 8 ≤ length old → Put old now 0 (recordOf a) next
+      → (taken n ≡ roomFor n (length old)) × (now ≡ leaves (roomFor n (length old)) (recordOf a) old)
+  unfolding roomFor judge leaves refuse
+  front-put a h p = (
+    rw (le-ltb (length old) 8 h),
+    rw (le-ltb (length old) 8 h) (p .memory ∙ sets-front (recordOf a) old (omega (arith, record-eight a))),
+  )
+
+-- ---- many points
 
 -- the same is gathered where each gives the same
 gather-is : (f h : ℕ → List ℕ) → ((i : ℕ) → f i ≡ h i) → (n : ℕ) → gather f n ≡ gather h n
@@ -40,14 +51,27 @@ unfolding gather
 gather-is f h e zero = refl
 gather-is f h e (suc n) = rw (gather-is f h e n, e n)
 
+pub same-eight : (a : Answer Sample) (n : ℕ) → length (gather (λ (k : ℕ). recordOf a) n) ≡ 8 * n
+same-eight a n = gather-even (λ (k : ℕ). recordOf a) 8 (λ k. record-eight a) n
+
+module _ (ps : List Float) (old : List ℕ) where
+  pub count-short : length old < 8 * pointsIn ps → (rs : List ℕ)
+      → (refused 3 (8 * pointsIn ps) ≡ countAnswer ps (length old)) × (old ≡ leaves (countAnswer ps (length old)) rs old)
+  unfolding countAnswer judge leaves refuse
+  count-short h rs = (rw (lt-ltb (length old) (8 * pointsIn ps) h), rw (lt-ltb (length old) (8 * pointsIn ps) h))
+
+  pub count-all : (rs : List ℕ) {now : List ℕ} {next : ℕ} → length rs ≡ 8 * pointsIn ps → 8 * pointsIn ps ≤ length old → Put old now 0 rs next
+      → (taken (pointsIn ps) ≡ countAnswer ps (length old)) × (now ≡ leaves (countAnswer ps (length old)) rs old)
+  unfolding countAnswer judge leaves refuse
+  count-all rs e h p =
+      (rw (le-ltb (length old) (8 * pointsIn ps) h), rw (le-ltb (length old) (8 * pointsIn ps) h) (p .memory ∙ sets-front rs old (omega arith)))
+
 module _ (m : Mesh) (ws : List ℕ) (ps : List Float) where
   -- one answer at every point
-  pub all-same : topFault m ws ≡ fine → ((i : ℕ) → getD (m .spans) i 0 < 4294967296) → (a : Answer Sample) → ((x y : Float) → a ≡ topOf m ws x y)
-      → gather (λ (k : ℕ). cutRecord a) (pointsIn ps) ≡ recordsOf m ws ps
+  pub all-same : (a : Answer Sample) → ((x y : Float) → a ≡ topOf m ws x y) → gather (λ (k : ℕ). recordOf a) (pointsIn ps) ≡ recordsOf m ws ps
   unfolding recordsOf recordAt
-  all-same f w a e =
-      gather-is (λ (k : ℕ). cutRecord a) (recordAt m ws ps)
-      (λ k. ap cutRecord (e (getD ps (2 * k) nan) (getD ps (2 * k + 1) nan)) ∙ uncut m ws (getD ps (2 * k) nan) (getD ps (2 * k + 1) nan) f w) (pointsIn ps)
+  all-same a e =
+      gather-is (λ (k : ℕ). recordOf a) (recordAt m ws ps) (λ k. ap recordOf (e (getD ps (2 * k) nan) (getD ps (2 * k + 1) nan))) (pointsIn ps)
 
   at-eight : (k : ℕ) → length (recordAt m ws ps k) ≡ 8
   unfolding recordAt
@@ -60,31 +84,28 @@ module _ (m : Mesh) (ws : List ℕ) (ps : List Float) where
   unfolding recordsOf
   all-eight = gather-even (recordAt m ws ps) 8 at-eight (pointsIn ps)
 
-  -- ---- the call's four ends, for an output that held `old`
+  -- ---- the call's ends, for an output that held `old`
 
   module _ (old : List ℕ) where
-    pub said-faulty : (r : Refusal) → topFault m ws ≡ fault (numberOf r) (placeOf r)
-        → (readSampling (Refused r) ≡ topsOf m ws ps (length old)) × (old ≡ leaves (topsOf m ws ps (length old)) (recordsOf m ws ps) old)
-    unfolding topsOf judge readSampling leaves
-    said-faulty r e = (rw e, rw e)
+    pub said-faulty : {n p : ℕ} → topFault m ws ≡ fault n p
+        → (refused n p ≡ topsOf m ws ps (length old)) × (old ≡ leaves (topsOf m ws ps (length old)) (recordsOf m ws ps) old)
+    unfolding topsOf judge leaves
+    said-faulty e = (rw e, rw e)
 
     module _ (f : topFault m ws ≡ fine) where
       pub said-ragged : (length ps % 2 ≡ 0 → ⊥)
           → (refused 2 5 ≡ topsOf m ws ps (length old)) × (old ≡ leaves (topsOf m ws ps (length old)) (recordsOf m ws ps) old)
-      unfolding topsOf pointsFault judge leaves uneven refuse
+      unfolding topsOf judge leaves uneven refuse
       said-ragged h = (rw (f, ne-eqb (length ps % 2) 0 h), rw (f, ne-eqb (length ps % 2) 0 h))
 
       module _ (even : length ps % 2 ≡ 0) where
-        pub said-short : length old < 8 * pointsIn ps
-            → (refused 3 (8 * pointsIn ps) ≡ topsOf m ws ps (length old)) × (old ≡ leaves (topsOf m ws ps (length old)) (recordsOf m ws ps) old)
-        unfolding topsOf pointsFault judge leaves uneven refuse
-        said-short h =
-            (rw (f, eq-eqb (length ps % 2) 0 even, lt-ltb (length old) (8 * pointsIn ps) h), rw (f, eq-eqb (length ps % 2) 0 even, lt-ltb (length old) (8 * pointsIn ps) h))
+        pub said-foreign : {n p : ℕ} → headFault ws (triangles (m .indices)) ≡ fault n p
+            → (refused n p ≡ topsOf m ws ps (length old)) × (old ≡ leaves (topsOf m ws ps (length old)) (recordsOf m ws ps) old)
+        unfolding topsOf judge leaves uneven refuse
+        said-foreign e = (rw (f, eq-eqb (length ps % 2) 0 even, e), rw (f, eq-eqb (length ps % 2) 0 even, e))
 
-        pub said-all : {now : List ℕ} {next : ℕ} → 8 * pointsIn ps ≤ length old → Put old now 0 (recordsOf m ws ps) next
-            → (taken (pointsIn ps) ≡ topsOf m ws ps (length old)) × (now ≡ leaves (topsOf m ws ps (length old)) (recordsOf m ws ps) old)
-        unfolding topsOf pointsFault judge leaves uneven refuse
-        said-all h p = (
-          rw (f, eq-eqb (length ps % 2) 0 even, le-ltb (length old) (8 * pointsIn ps) h),
-          rw (f, eq-eqb (length ps % 2) 0 even, le-ltb (length old) (8 * pointsIn ps) h) (p .memory ∙ sets-front (recordsOf m ws ps) old (omega (arith, all-eight))),
-        )
+        pub said-rest : {a : Answer ℕ} {now rs : List ℕ} → headFault ws (triangles (m .indices)) ≡ fine → rs ≡ recordsOf m ws ps
+            → (a ≡ countAnswer ps (length old)) × (now ≡ leaves (countAnswer ps (length old)) rs old)
+            → (a ≡ topsOf m ws ps (length old)) × (now ≡ leaves (topsOf m ws ps (length old)) (recordsOf m ws ps) old)
+        unfolding topsOf judge uneven refuse
+        said-rest e s p = (rw (f, eq-eqb (length ps % 2) 0 even, e) (p .0), rw (f, eq-eqb (length ps % 2) 0 even, e, ← s) (p .1))

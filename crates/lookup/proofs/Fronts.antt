@@ -6,14 +6,14 @@ use native.Mathlib.Omega.{arith}
 use lib.Ieee.{Float, binary32}
 use Rattle.rounding.specs.Column.{col}
 use Rattle.rounding.specs.Laws.Column.{col-lt}
-use Rattle.shape.specs.Refusal.{taken, refused, numberOf, placeOf}
+use Rattle.shape.specs.Refusal.{fine, fault, taken, refused, numberOf, placeOf}
 use Rattle.shape.specs.declared.refusal.Refusal.{Refusal}
 use Rattle.lookup.specs.declared.grid.Front.{Front}
 use Rattle.lookup.specs.declared.grid.Opened.{Opened}
 use Rattle.lookup.specs.declared.grid.Opened.the-variants.{Open, Empty, Foreign}
-use Rattle.lookup.specs.Consult.{wordAt, floatAt, cellAt, firstAt, nowhere, consultOf}
+use Rattle.lookup.specs.Consult.{wordAt, floatAt, cellAt, firstAt, headFault, nowhere, consultOf}
 use Rattle.lookup.specs.Steps.{Sided, frontOf, Ready, Opens}
-use Rattle.lookup.specs.Laws.Heads.{grid-small}
+use Rattle.lookup.specs.Laws.Heads.{grid-small, consult-refused}
 
 module _ {h : Front} (ws : List ℕ) (e : h ≡ frontOf ws) where
   pub cols-is : h .cols ≡ wordAt ws 1
@@ -72,10 +72,13 @@ module _ (ws : List ℕ) (count : ℕ) {d : Opened} (s : Opens ws count d) where
   unfolding Opens
   open-is e = subst (Opens ws count) e s
 
-  pub empty-is : d ≡ Empty → (x y : Float) → taken nowhere ≡ consultOf ws count x y
+  pub empty-is : d ≡ Empty → (headFault ws count ≡ fine) × ((x y : Float) → taken nowhere ≡ consultOf ws count x y)
   unfolding Opens
   empty-is e = subst (Opens ws count) e s
 
-  pub foreign-is : {r : Refusal} → d ≡ Foreign r → (x y : Float) → refused (numberOf r) (placeOf r) ≡ consultOf ws count x y
+  pub head-is : {r : Refusal} → d ≡ Foreign r → headFault ws count ≡ fault (numberOf r) (placeOf r)
   unfolding Opens
-  foreign-is e = subst (Opens ws count) e s
+  head-is e = subst (Opens ws count) e s
+
+  pub foreign-is : {r : Refusal} → d ≡ Foreign r → (x y : Float) → refused (numberOf r) (placeOf r) ≡ consultOf ws count x y
+  foreign-is e x y = consult-refused ws count x y _ _ (head-is e)

@@ -18,4 +18,3 @@ pub mod Sixteens
 pub mod Answers
 pub mod Fronts
 pub mod Reach
-pub mod OnePoint

@@ -8,11 +8,13 @@ use lib.Ieee.{Float, nan, binary32, toBits}
 use Rattle.vector.specs.declared.coords.Vector.{Vector}
 use Rattle.shape.specs.Gather.{gather}
 use Rattle.shape.specs.Lists.{Mesh, uneven}
-use Rattle.shape.specs.Refusal.{Fault, fine, refuse, Answer, taken, refused, judge, numberOf, placeOf}
+use Rattle.shape.specs.Refusal.{fine, refuse, Answer, taken, refused, judge, numberOf, placeOf}
 use Rattle.lookup.specs.declared.sampler.Lane.{Lane}
 use Rattle.lookup.specs.declared.sampler.Lane.the-variants.{Id, None}
 use Rattle.lookup.specs.declared.sampler.Sampling.{Sampling}
 use Rattle.lookup.specs.declared.sampler.Sampling.the-variants.{Count, Refused}
+use Rattle.lookup.specs.Mesh.{triangles}
+use Rattle.lookup.specs.Consult.{headFault}
 use Rattle.lookup.specs.Sampler.{Sample, hit, miss, topFault, topOf}
 
 -- ---- the record of a point's answer
@@ -57,15 +59,19 @@ unfoldable pub recordsOf : Mesh → List ℕ → List Float → List ℕ
 unfolding gather recordAt
 recordsOf m ws ps = gather (recordAt m ws ps) (pointsIn ps)
 
--- a point without its y, then an output that has no room for eight words a point
-unfoldable pub pointsFault : List Float → ℕ → Fault
-unfolding refuse uneven
-pointsFault ps room = refuse (uneven 2 ps) 2 5 (refuse (ltb room (8 * pointsIn ps)) 3 (8 * pointsIn ps) fine)
+-- the last that is judged is an output without room for eight words a point; else how many points there are
+unfoldable pub countAnswer : List Float → ℕ → Answer ℕ
+unfolding judge refuse
+countAnswer ps room = judge (refuse (ltb room (8 * pointsIn ps)) 3 (8 * pointsIn ps) fine) (taken (pointsIn ps))
 
--- the answer for an output of `room` words: how many points
+-- the answer for an output of `room` words. What is wrong with the whole call is judged in the table's order: 1 and 2 of the lists, a point without its y, the
+-- index's first words, the room
 unfoldable pub topsOf : Mesh → List ℕ → List Float → ℕ → Answer ℕ
-unfolding judge topFault pointsFault
-topsOf m ws ps room = judge (topFault m ws) (judge (pointsFault ps room) (taken (pointsIn ps)))
+unfolding judge topFault refuse uneven headFault countAnswer
+topsOf m ws ps room =
+    judge (topFault m ws)
+    (judge (refuse (uneven 2 ps) 2 5 fine)
+    (judge (headFault ws (triangles (m .indices))) (countAnswer ps room)))
 
 -- document 01's values of each case of the code's
 unfoldable pub readSampling : Sampling → Answer ℕ
@@ -73,23 +79,6 @@ unfolding numberOf placeOf
 readSampling (Count n) = taken n
 readSampling (Refused r) = refused (numberOf r) (placeOf r)
 
--- ---- a step on the way, for the private functions: the record in words of 32 bits, each number past the greatest word cut to it. No answer has one
--- (Laws/Batch, `uncut`)
-
+-- a number as a word of 32 bits, one past the greatest cut to it
 unfoldable pub wordFor : ℕ → ℕ
 wordFor n = cond (ltb n 0x1_0000_0000) n 0xffff_ffff
-
-unfoldable pub cutRecord : Answer Sample → List ℕ
-unfolding toBits wordFor laneThere laneId
-cutRecord (taken (hit h n t l)) =
-    1
-    ∷ toBits binary32 h
-    ∷ toBits binary32 (n .x)
-    ∷ toBits binary32 (n .y)
-    ∷ toBits binary32 (n .z)
-    ∷ wordFor t
-    ∷ laneThere l
-    ∷ wordFor (laneId l)
-    ∷ []
-cutRecord (taken miss) = 0 ∷ 0 ∷ 0 ∷ 0 ∷ 0 ∷ 0 ∷ 0 ∷ 0 ∷ []
-cutRecord (refused number place) = 2 ∷ number ∷ wordFor place ∷ 0 ∷ 0 ∷ 0 ∷ 0 ∷ 0 ∷ []

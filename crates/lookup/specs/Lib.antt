@@ -12,6 +12,7 @@ pub mod Steps
 pub mod IndexExamples
 pub mod Sampler
 pub mod Batch
+pub mod Record
 pub mod Demand3
 pub mod Laws
 pub mod Examples

@@ -1,4 +1,5 @@
 // The two height lookups over a mesh, and the index that serves the second.
 pub mod grid;
 pub mod mesh;
+pub mod record;
 pub mod sampler;

@@ -61,7 +61,7 @@ fn wide(i: u32) -> usize
 }
 
 // Vertex i, which is there.
-pub fn vertex(vertices: &[f32], i: usize) -> Point
+pub(crate) fn vertex(vertices: &[f32], i: usize) -> Point
     requires { ⌜ 3 * i + 2 < length (now vertices) ⌝ }
     ensures { λ r. ⌜ r ≡ pointAt (now (vertices .entry)) i ⌝ }
 {
@@ -319,7 +319,7 @@ pub fn normal_of(
 }
 
 // The same where w are the weights of the triangle's corners at (x, y), and it is there.
-pub fn normal_by(
+pub(crate) fn normal_by(
     vertices: &[f32],
     normals: &[f32],
     indices: &[u32],
@@ -518,30 +518,35 @@ fn both(p: bool, q: bool) -> bool
 }
 
 // The peak of the triangles that a run of triangle numbers names, in its order. Nearly all go by their least
-// weight: it is worked out for sixteen at a time, first the corners and then the weights, in the room lent.
-pub fn highest_in(
-    vertices: &[f32],
-    indices: &[u32],
-    run: &[u32],
-    x: f32,
-    y: f32,
-    a: &mut [f32],
-    b: &mut [f32],
-    c: &mut [f32],
-    low: &mut [f32],
-) -> Hit
-    requires { ⌜ (32 ≤ length (now a)) × (32 ≤ length (now b)) × (32 ≤ length (now c)) × (16 ≤ length (now low)) ⌝ }
+// weight: it is worked out for sixteen at a time, first the corners and then the weights.
+pub(crate) fn highest_in(vertices: &[f32], indices: &[u32], run: &[u32], x: f32, y: f32) -> Hit
     ensures { λ r. ⌜ HitOf (now (vertices .entry)) (now (indices .entry)) x y (now (run .entry)) (length (now (run .entry))) (r .peak .best) (r .whole) ⌝ }
     ensures { λ r. ⌜ Poised (now (vertices .entry)) (now (indices .entry)) x y (r .peak) ⌝ }
 {
+    let mut a = [0f32; 32];
+    let mut b = [0f32; 32];
+    let mut c = [0f32; 32];
+    let mut low = [0f32; 16];
     let mut peak = no_peak();
     let mut whole = true;
     let mut i: usize = 0;
     while i < run.len() {
         let n = few_of(run.len() - i);
-        let there = weigh_part(vertices, indices, run, i, n, x, y, a, b, c, low);
+        let there = weigh_part(
+            vertices,
+            indices,
+            run,
+            i,
+            n,
+            x,
+            y,
+            &mut a,
+            &mut b,
+            &mut c,
+            &mut low,
+        );
         whole = both(whole, there);
-        peak = low_turns(vertices, indices, run, i, n, low, x, y, peak);
+        peak = low_turns(vertices, indices, run, i, n, &low, x, y, peak);
         i += n;
     }
     Hit {

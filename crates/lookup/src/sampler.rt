@@ -1,20 +1,19 @@
 // The indexed lookup: the highest of the point's candidates, with the lane that its triangle belongs to.
 ghost use mathlib.Core.Path.{_≡_};
-ghost use mathlib.Core.List.{[], _∷_};
 ghost use mathlib.Core.Bool.{true, false};
 ghost use Prim.Native.Nat.{ℕ, _+_, _-_, _*_, _/_, _<_, _≤_};
 ghost use lib.Dec.{eqb};
 ghost use lib.ListN.{length};
 ghost use Rattle.shape.specs.Gather.{any, gather};
-ghost use Rattle.shape.specs.Refusal.{Answer, fine, taken, found, numberOf, placeOf, leaves};
+ghost use Rattle.shape.specs.Refusal.{fine, taken, found, numberOf, placeOf, leaves};
 ghost use Rattle.shape.specs.Lists.{runBad, meshFault, meshLists};
 ghost use Rattle.shape.specs.Memory.{Put};
-ghost use Rattle.lookup.specs.Sampler.{EndsRise, pastOf, laneOf, topFault, Sample, readSampled, sampleOf, topOf};
+ghost use Rattle.lookup.specs.Sampler.{EndsRise, pastOf, laneOf, topFault, miss, readSampled, sampleOf, topOf};
 ghost use Rattle.lookup.specs.Consult.{entryFault};
 ghost use Rattle.lookup.specs.Mesh.{triangles};
 ghost use Rattle.lookup.specs.Sixteen.{Small, Poised};
-ghost use Rattle.lookup.specs.Steps.{Ready, Halved, AtMostForeign, Singles};
-ghost use Rattle.lookup.specs.Batch.{wordFor, laneThere, laneId, recordOf, cutRecord, recordAt, recordsOf, topsOf, readSampling};
+ghost use Rattle.lookup.specs.Steps.{Ready, Halved};
+ghost use Rattle.lookup.specs.Batch.{wordFor, laneThere, laneId, recordOf, recordAt, recordsOf, countAnswer, topsOf, readSampling};
 use crate::grid::Consulted;
 use crate::grid::Front;
 use crate::grid::Opened;
@@ -26,8 +25,7 @@ use crate::mesh::Best;
 use crate::mesh::Peak;
 use crate::mesh::highest_in;
 use crate::mesh::normal_by;
-use rounding::bits::bits32;
-use rounding::bits::from_bits32;
+use crate::record::put_record;
 use shape::lists::mesh_fault;
 use shape::lists::record_word;
 use shape::refusal::Check;
@@ -289,27 +287,46 @@ fn sample_in(
     h: Front,
     x: f32,
     y: f32,
-    a: &mut [f32],
-    b: &mut [f32],
-    c: &mut [f32],
-    low: &mut [f32],
 ) -> Sampled
-    requires { ⌜ topFault (meshLists (now vertices) (now normals) (now indices) (now spans)) (now index) ≡ fine ⌝ }
+    requires { let m = meshLists (now vertices) (now normals) (now indices) (now spans) in ⌜ topFault m (now index) ≡ fine ⌝ }
     requires { ⌜ Ready (now index) (triangles (now indices)) h ⌝ }
-    requires { ⌜ (32 ≤ length (now a)) × (32 ≤ length (now b)) × (32 ≤ length (now c)) × (16 ≤ length (now low)) ⌝ }
-    ensures { λ r. ⌜ readSampled r ≡ topOf (meshLists (now (vertices .entry)) (now (normals .entry)) (now (indices .entry)) (now (spans .entry))) (now (index .entry)) x y ⌝ }
+    ensures { λ r. let m = meshLists (now (vertices .entry)) (now (normals .entry)) (now (indices .entry)) (now (spans .entry)) in ⌜ readSampled r ≡ topOf m (now (index .entry)) x y ⌝ }
 {
     match locate(index, h, x, y) {
         Consulted::Refused(r) => Sampled::Refused(r),
         Consulted::Nowhere => Sampled::None,
         Consulted::Run(from, to) => {
-            let hit = highest_in(vertices, indices, at(index, from, to), x, y, a, b, c, low);
+            let hit = highest_in(vertices, indices, at(index, from, to), x, y);
             let check = run_check(index, indices.len() / 3, from, to, hit.whole);
             if let Check::Faulty(r) = check {
                 return Sampled::Refused(r);
             }
             told(vertices, normals, indices, spans, x, y, hit.peak)
         }
+    }
+}
+
+// The highest of the point's candidates, of the lowest number among equals: its height, normal, number
+// and lane.
+pub fn top(
+    vertices: &[f32],
+    normals: &[f32],
+    indices: &[u32],
+    spans: &[u32],
+    index: &[u32],
+    x: f32,
+    y: f32,
+) -> Sampled
+    ensures { λ r. let m = meshLists (now (vertices .entry)) (now (normals .entry)) (now (indices .entry)) (now (spans .entry)) in ⌜ readSampled r ≡ topOf m (now (index .entry)) x y ⌝ }
+{
+    let check = top_fault(vertices, normals, indices, spans, index);
+    if let Check::Faulty(r) = check {
+        return Sampled::Refused(r);
+    }
+    match open(index, indices.len() / 3) {
+        Opened::Foreign(r) => Sampled::Refused(r),
+        Opened::Empty => Sampled::None,
+        Opened::Open(h) => sample_in(vertices, normals, indices, spans, index, h, x, y),
     }
 }
 
@@ -377,56 +394,6 @@ pub fn lane_id(l: Lane) -> usize
     }
 }
 
-// Eight words from `at` on, and where they end.
-fn put_eight(
-    out: &mut [u32],
-    at: usize,
-    a: u32,
-    b: u32,
-    c: u32,
-    d: u32,
-    e: u32,
-    f: u32,
-    g: u32,
-    h: u32,
-) -> usize
-    requires { ⌜ at + 8 ≤ length (now out) ⌝ }
-    ensures { λ r. ⌜ Put (now (out .entry)) (now (out .exit)) at (a ∷ b ∷ c ∷ d ∷ e ∷ f ∷ g ∷ h ∷ []) r ⌝ }
-{
-    out[at] = a;
-    out[at + 1] = b;
-    out[at + 2] = c;
-    out[at + 3] = d;
-    out[at + 4] = e;
-    out[at + 5] = f;
-    out[at + 6] = g;
-    out[at + 7] = h;
-    at + 8
-}
-
-// The record of a point's answer, from `at` on.
-fn put_record(out: &mut [u32], at: usize, s: Sampled) -> usize
-    requires { ⌜ at + 8 ≤ length (now out) ⌝ }
-    ensures { λ r. ⌜ Put (now (out .entry)) (now (out .exit)) at (cutRecord (readSampled s)) r ⌝ }
-{
-    match s {
-        Sampled::Found(h, n, t, l) => put_eight(
-            out,
-            at,
-            1,
-            bits32(h),
-            bits32(n.x),
-            bits32(n.y),
-            bits32(n.z),
-            word(t),
-            lane_there(l),
-            word(lane_id(l)),
-        ),
-        Sampled::None => put_eight(out, at, 0, 0, 0, 0, 0, 0, 0, 0),
-        Sampled::Refused(r) => put_eight(out, at, 2, number(r), word(place(r)), 0, 0, 0, 0, 0),
-    }
-}
-
 // The record of point k, from `at` on.
 fn put_point(
     vertices: &[f32],
@@ -439,39 +406,21 @@ fn put_point(
     k: usize,
     answers: &mut [u32],
     at: usize,
-    a: &mut [f32],
-    b: &mut [f32],
-    c: &mut [f32],
-    low: &mut [f32],
 ) -> usize
-    requires { ⌜ topFault (meshLists (now vertices) (now normals) (now indices) (now spans)) (now index) ≡ fine ⌝ }
+    requires { let m = meshLists (now vertices) (now normals) (now indices) (now spans) in ⌜ topFault m (now index) ≡ fine ⌝ }
     requires { ⌜ Ready (now index) (triangles (now indices)) h ⌝ }
     requires { ⌜ (k < length (now points) / 2) × (at + 8 ≤ length (now answers)) ⌝ }
-    requires { ⌜ (32 ≤ length (now a)) × (32 ≤ length (now b)) × (32 ≤ length (now c)) × (16 ≤ length (now low)) ⌝ }
-    ensures { λ r. ⌜ Put (now (answers .entry)) (now (answers .exit)) at (recordAt (meshLists (now (vertices .entry)) (now (normals .entry)) (now (indices .entry)) (now (spans .entry))) (now (index .entry)) (now (points .entry)) k) r ⌝ }
+    ensures { λ r. let m = meshLists (now (vertices .entry)) (now (normals .entry)) (now (indices .entry)) (now (spans .entry)) in
+        ⌜ Put (now (answers .entry)) (now (answers .exit)) at (recordAt m (now (index .entry)) (now (points .entry)) k) r ⌝ }
 {
     let x = points[2 * k];
     let y = points[2 * k + 1];
-    let s = sample_in(
-        vertices,
-        normals,
-        indices,
-        spans,
-        index,
-        h,
-        x,
-        y,
-        a,
-        b,
-        c,
-        low,
-    );
+    let s = sample_in(vertices, normals, indices, spans, index, h, x, y);
     put_record(answers, at, s)
 }
 
-// The records of all points, at the front of `answers`, where cells may be consulted. What is lent on to
-// each point is made once.
-fn put_open(
+// The records of all points, where cells may be consulted, and how many points there are.
+fn tops_open(
     vertices: &[f32],
     normals: &[f32],
     indices: &[u32],
@@ -480,17 +429,17 @@ fn put_open(
     h: Front,
     points: &[f32],
     answers: &mut [u32],
-)
-    requires { ⌜ topFault (meshLists (now vertices) (now normals) (now indices) (now spans)) (now index) ≡ fine ⌝ }
+) -> Sampling
+    requires { let m = meshLists (now vertices) (now normals) (now indices) (now spans) in ⌜ topFault m (now index) ≡ fine ⌝ }
     requires { ⌜ Ready (now index) (triangles (now indices)) h ⌝ }
-    requires { ⌜ 8 * (length (now points) / 2) ≤ length (now answers) ⌝ }
-    ensures { λ _. ⌜ Put (now (answers .entry)) (now (answers .exit)) 0 (recordsOf (meshLists (now (vertices .entry)) (now (normals .entry)) (now (indices .entry)) (now (spans .entry))) (now (index .entry)) (now (points .entry))) (8 * (length (now (points .entry)) / 2)) ⌝ }
+    ensures { λ r. ⌜ readSampling r ≡ countAnswer (now (points .entry)) (length (now (answers .entry))) ⌝ }
+    ensures { λ _. let m = meshLists (now (vertices .entry)) (now (normals .entry)) (now (indices .entry)) (now (spans .entry)) in
+        ⌜ now (answers .exit) ≡ leaves (countAnswer (now (points .entry)) (length (now (answers .entry)))) (recordsOf m (now (index .entry)) (now (points .entry))) (now (answers .entry)) ⌝ }
 {
     let n = points.len() / 2;
-    let mut a = [0f32; 32];
-    let mut b = [0f32; 32];
-    let mut c = [0f32; 32];
-    let mut low = [0f32; 16];
+    if answers.len() < 8 * n {
+        return Sampling::Refused(Refusal::ShortOutput(8 * n));
+    }
     let mut at: usize = 0;
     let mut k: usize = 0;
     while k < n {
@@ -505,51 +454,32 @@ fn put_open(
             k,
             answers,
             at,
-            &mut a,
-            &mut b,
-            &mut c,
-            &mut low,
         );
         k += 1;
     }
+    Sampling::Count(n)
 }
 
-// The record of one answer n times, at the front of `answers`.
-fn put_same(answers: &mut [u32], n: usize, s: Sampled)
-    requires { ⌜ 8 * n ≤ length (now answers) ⌝ }
-    ensures { λ _. ⌜ Put (now (answers .entry)) (now (answers .exit)) 0 (gather (λ (k : ℕ). cutRecord (readSampled s)) n) (8 * n) ⌝ }
+// The same where there are no cells: no point has a height.
+fn tops_empty(points: &[f32], answers: &mut [u32]) -> Sampling
+    ensures { λ r. ⌜ readSampling r ≡ countAnswer (now (points .entry)) (length (now (answers .entry))) ⌝ }
+    ensures { λ _. ⌜ now (answers .exit) ≡ leaves (countAnswer (now (points .entry)) (length (now (answers .entry)))) (gather (λ (k : ℕ). recordOf (taken miss)) (length (now (points .entry)) / 2)) (now (answers .entry)) ⌝ }
 {
+    let n = points.len() / 2;
+    if answers.len() < 8 * n {
+        return Sampling::Refused(Refusal::ShortOutput(8 * n));
+    }
     let mut at: usize = 0;
     let mut k: usize = 0;
     while k < n {
-        at = put_record(answers, at, s);
+        at = put_record(answers, at, Sampled::None);
         k += 1;
     }
+    Sampling::Count(n)
 }
 
-// The records of all points, at the front of `answers`. The index's first words are looked at once.
-fn put_points(
-    vertices: &[f32],
-    normals: &[f32],
-    indices: &[u32],
-    spans: &[u32],
-    index: &[u32],
-    points: &[f32],
-    answers: &mut [u32],
-)
-    requires { ⌜ topFault (meshLists (now vertices) (now normals) (now indices) (now spans)) (now index) ≡ fine ⌝ }
-    requires { ⌜ 8 * (length (now points) / 2) ≤ length (now answers) ⌝ }
-    ensures { λ _. ⌜ Put (now (answers .entry)) (now (answers .exit)) 0 (recordsOf (meshLists (now (vertices .entry)) (now (normals .entry)) (now (indices .entry)) (now (spans .entry))) (now (index .entry)) (now (points .entry))) (8 * (length (now (points .entry)) / 2)) ⌝ }
-{
-    match open(index, indices.len() / 3) {
-        Opened::Foreign(r) => put_same(answers, points.len() / 2, Sampled::Refused(r)),
-        Opened::Empty => put_same(answers, points.len() / 2, Sampled::None),
-        Opened::Open(h) => put_open(vertices, normals, indices, spans, index, h, points, answers),
-    }
-}
-
-// The answers at many points, eight words each: point by point that of `top`. The lists are looked
-// through once for all points.
+// The answers at many points, eight words each: point by point that of `top`. The lists and the index's first
+// words are looked through once for all points, and what is wrong with them turns the whole call back.
 pub fn tops(
     vertices: &[f32],
     normals: &[f32],
@@ -559,8 +489,9 @@ pub fn tops(
     points: &[f32],
     answers: &mut [u32],
 ) -> Sampling
-    ensures { λ r. ⌜ readSampling r ≡ topsOf (meshLists (now (vertices .entry)) (now (normals .entry)) (now (indices .entry)) (now (spans .entry))) (now (index .entry)) (now (points .entry)) (length (now (answers .entry))) ⌝ }
-    ensures { λ _. ⌜ now (answers .exit) ≡ leaves (topsOf (meshLists (now (vertices .entry)) (now (normals .entry)) (now (indices .entry)) (now (spans .entry))) (now (index .entry)) (now (points .entry)) (length (now (answers .entry)))) (recordsOf (meshLists (now (vertices .entry)) (now (normals .entry)) (now (indices .entry)) (now (spans .entry))) (now (index .entry)) (now (points .entry))) (now (answers .entry)) ⌝ }
+    ensures { λ r. let m = meshLists (now (vertices .entry)) (now (normals .entry)) (now (indices .entry)) (now (spans .entry)) in ⌜ readSampling r ≡ topsOf m (now (index .entry)) (now (points .entry)) (length (now (answers .entry))) ⌝ }
+    ensures { λ _. let m = meshLists (now (vertices .entry)) (now (normals .entry)) (now (indices .entry)) (now (spans .entry)) in
+        ⌜ now (answers .exit) ≡ leaves (topsOf m (now (index .entry)) (now (points .entry)) (length (now (answers .entry)))) (recordsOf m (now (index .entry)) (now (points .entry))) (now (answers .entry)) ⌝ }
 {
     let check = top_fault(vertices, normals, indices, spans, index);
     if let Check::Faulty(r) = check {
@@ -569,71 +500,9 @@ pub fn tops(
     if points.len() % 2 != 0 {
         return Sampling::Refused(Refusal::Ragged(5));
     }
-    let n = points.len() / 2;
-    if answers.len() < 8 * n {
-        return Sampling::Refused(Refusal::ShortOutput(8 * n));
-    }
-    put_points(vertices, normals, indices, spans, index, points, answers);
-    Sampling::Count(n)
-}
-
-// ---- one point
-
-// The lane that a record tells of.
-fn lane_by(there: u32, id: u32) -> Lane
-    ensures { λ r. ⌜ ((l : Lane) → there ≡ laneThere l → id ≡ laneId l → r ≡ l) ⌝ }
-{
-    if there == 0 {
-        return Lane::None;
-    }
-    Lane::Id(wide(id))
-}
-
-// The answer that a record tells of. A cell that is refused is that of a foreign index.
-fn told_by(words: &[u32]) -> Sampled
-    requires { ⌜ length (now words) ≡ 8 ⌝ }
-    ensures { λ r. ⌜ ((a : Answer Sample) → now (words .entry) ≡ recordOf a → AtMostForeign a → Singles a → readSampled r ≡ a) ⌝ }
-{
-    if words[0] == 0 {
-        return Sampled::None;
-    }
-    if words[0] == 1 {
-        let normal = Vector {
-            x: from_bits32(words[2]),
-            y: from_bits32(words[3]),
-            z: from_bits32(words[4]),
-        };
-        let lane = lane_by(words[6], words[7]);
-        return Sampled::Found(from_bits32(words[1]), normal, wide(words[5]), lane);
-    }
-    Sampled::Refused(Refusal::ForeignIndex(wide(words[2])))
-}
-
-// The highest of the point's candidates, of the lowest number among equals: its height, normal, number
-// and lane. One point is asked as many are, so that the compiler makes one scan of the two.
-pub fn top(
-    vertices: &[f32],
-    normals: &[f32],
-    indices: &[u32],
-    spans: &[u32],
-    index: &[u32],
-    x: f32,
-    y: f32,
-) -> Sampled
-    ensures { λ r. ⌜ readSampled r ≡ topOf (meshLists (now (vertices .entry)) (now (normals .entry)) (now (indices .entry)) (now (spans .entry))) (now (index .entry)) x y ⌝ }
-{
-    let points = [x, y];
-    let mut words = [0u32; 8];
-    match tops(
-        vertices,
-        normals,
-        indices,
-        spans,
-        index,
-        &points,
-        &mut words,
-    ) {
-        Sampling::Refused(r) => Sampled::Refused(r),
-        Sampling::Count(n) => told_by(&words),
+    match open(index, indices.len() / 3) {
+        Opened::Foreign(r) => Sampling::Refused(r),
+        Opened::Empty => tops_empty(points, answers),
+        Opened::Open(h) => tops_open(vertices, normals, indices, spans, index, h, points, answers),
     }
 }

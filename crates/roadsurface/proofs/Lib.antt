@@ -1,3 +1,2 @@
 -- The lemmas that the proofs of the functions cite.
 pub mod Telling
-pub mod Records

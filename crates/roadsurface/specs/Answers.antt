@@ -1,100 +1,82 @@
--- What an exported function says of the inner call's answer: a code that is returned, and words in the answer slice. Definitions only. Assumes nothing.
+-- What an exported function says of the inner call's answer: the code that it returns, and what it leaves in each number that it is lent. Definitions
+-- only. Assumes nothing.
 use Prim.Native.Nat.{ℕ, _+_, _*_, _^_}
-use mathlib.Core.Path.{_≡_}
 use mathlib.Core.Bool.{Bool, cond}
-use mathlib.Core.List.{List, [], _∷_, _++_}
-use lib.Dec.{ltb}
-use lib.ListN.{length, drop}
-use lib.Ieee.{Float, binary32, binary64, toBits}
-use Rattle.shape.specs.Refusal.{fine, refuse, Answer, taken, refused, judge}
+use mathlib.Core.List.{List}
+use lib.Ieee.{Float}
+use Rattle.shape.specs.Refusal.{Answer, taken, refused}
 use Rattle.shape.specs.declared.elevation.Spot.{Spot}
 use Rattle.shape.specs.declared.elevation.Spot.the-variants.{Missing, At}
 use Rattle.shape.specs.declared.elevation.ElevationGrid.{ElevationGrid}
 use Rattle.shape.specs.declared.junction.JunctionGrid.{JunctionGrid}
 use Rattle.shape.specs.declared.junction.JunctionGrid.the-variants.{Absent, Present}
-use Rattle.shape.specs.declared.junction_areas.Outline.{Outline}
-use Rattle.shape.specs.declared.mesh.MeshCounts.{MeshCounts}
-use Rattle.shape.specs.Lists.{Mesh}
 use Rattle.shape.specs.Outline.{resultOf}
 use Rattle.shape.specs.Verdict.{Validity, sound, empty, nonFinite, outOfRange, degenerate}
-use Rattle.lookup.specs.Plain.{Lookup, gives, none, answerOf}
-use Rattle.lookup.specs.Sampler.{Sample}
-use Rattle.lookup.specs.Batch.{wordFor, recordOf}
+use Rattle.lookup.specs.Batch.{wordFor}
 
--- ---- the code
+-- ---- the code and the numbers. A count or a place past 32 bits is told as ffffffff (`wordFor`)
 
--- number * 2^32 + place, a place past 32 bits cut to the greatest of them
 unfoldable pub codeFor : ℕ → ℕ → ℕ
 unfolding wordFor
 codeFor number place = number * 2 ^ 32 + wordFor place
 
--- 0 for a call that is taken
-unfoldable pub codeOf : {A : Type 0} → Answer A → ℕ
-unfolding codeFor
-codeOf (taken a) = 0
-codeOf (refused number place) = codeFor number place
+-- the code of a refusal's number and place; of a call that is taken, its count
+unfoldable pub codeOf : {A : Type 0} → (A → ℕ) → Answer A → ℕ
+unfolding wordFor codeFor
+codeOf count (taken a) = wordFor (count a)
+codeOf count (refused number place) = codeFor number place
 
--- ---- the answer slice
+-- what is left in a number that held `before`: what a call that is taken puts there; of a refused call, what stood there
+unfoldable pub leftIn : {A B : Type 0} → (A → B → B) → Answer A → B → B
+leftIn put (taken a) before = put a before
+leftIn put (refused number place) before = before
 
--- the values at its front, and then what stood there; of a refused call, all as it was
-unfoldable pub wordsAfter : {A : Type 0} → Answer A → (A → List ℕ) → List ℕ → List ℕ
-wordsAfter (taken a) values before = values a ++ drop (length (values a)) before
-wordsAfter (refused number place) values before = before
-
--- a slice of fewer than n words is turned back first of all: short output, n
-unfoldable pub lent : {A : Type 0} → ℕ → List ℕ → Answer A → Answer A
-unfolding judge refuse
-lent n words a = judge (refuse (ltb (length words) n) 3 n fine) a
-
--- a call that returns `code` and left `after` in the answer slice that held `before` says the answer a, whose values are the words `values`
-pub record Told {A : Type 0} (a : Answer A) (values : A → List ℕ) (before after : List ℕ) (code : ℕ) : Type 0 where
-  pub returned : code ≡ codeOf a
-  pub answer : after ≡ wordsAfter a values before
-
--- ---- the values. Floats by their bits, a NaN's as 7fc00000 or 7ff8000000000000; a test as 1 or 0
-
+-- a test as a number
 abbrev pub bitOf : Bool → ℕ
 bitOf b = cond b 1 0
 
--- whether there is a height, and the height
-unfoldable pub spotWords : Spot → List ℕ
-unfolding toBits
-spotWords (At z) = 1 ∷ toBits binary64 z ∷ []
-spotWords Missing = 0 ∷ 0 ∷ []
+-- ---- a height in an elevation grid: 1 found or 0 none, and the height, which none leaves as it was
 
--- the ring's count of points, segments dropped, greatest gap, closed, turned
-unfoldable pub outlineWords : Outline → List ℕ
-unfolding toBits
-outlineWords o = o .count ∷ o .dropped ∷ toBits binary32 (o .gap) ∷ bitOf (o .closed) ∷ bitOf (o .turned) ∷ []
+unfoldable pub foundIn : Spot → ℕ
+foundIn (At z) = 1
+foundIn Missing = 0
 
--- a count alone
-abbrev pub countWords : ℕ → List ℕ
-countWords n = n ∷ []
+unfoldable pub heightPut : Spot → Float → Float
+heightPut (At z) before = z
+heightPut Missing before = before
 
--- the counts of vertices, normals, indices and spans
-unfoldable pub meshWords : MeshCounts → List ℕ
-meshWords m = m .vertices ∷ m .normals ∷ m .indices ∷ m .spans ∷ []
+-- ---- the verdict on a mesh: its kind; the vertex or the triangle; the index that is past the vertices, and how many these are
 
--- whether there is a triangle, its height, normal and number
-unfoldable pub lookupWords : Lookup → List ℕ
-unfolding toBits
-lookupWords (gives h n t) =
-    1 ∷ toBits binary32 h ∷ toBits binary32 (n .x) ∷ toBits binary32 (n .y) ∷ toBits binary32 (n .z) ∷ t ∷ []
-lookupWords none = 0 ∷ 0 ∷ 0 ∷ 0 ∷ 0 ∷ 0 ∷ []
+unfoldable pub kindOf : Validity → ℕ
+kindOf sound = 0
+kindOf empty = 1
+kindOf (nonFinite vertex) = 2
+kindOf (outOfRange triangle index vertices) = 3
+kindOf (degenerate triangle) = 4
 
--- the record that the call for many points writes
-unfoldable pub sampleWords : Sample → List ℕ
-unfolding recordOf
-sampleWords s = recordOf (taken s)
+unfoldable pub placePut : Validity → ℕ → ℕ
+unfolding wordFor
+placePut sound before = before
+placePut empty before = before
+placePut (nonFinite vertex) before = wordFor vertex
+placePut (outOfRange triangle index vertices) before = wordFor triangle
+placePut (degenerate triangle) before = wordFor triangle
 
--- the verdict's kind and its counts: 0 sound; 1 no indices; 2 a vertex that is not finite; 3 a triangle, its index that is past the vertices, and how many
--- these are; 4 a triangle without area
-unfoldable pub verdictWords : Validity → List ℕ
-verdictWords sound = 0 ∷ 0 ∷ 0 ∷ 0 ∷ []
-verdictWords empty = 1 ∷ 0 ∷ 0 ∷ 0 ∷ []
-verdictWords (nonFinite vertex) = 2 ∷ vertex ∷ 0 ∷ 0 ∷ []
-verdictWords (outOfRange triangle index vertices) = 3 ∷ triangle ∷ index ∷ vertices ∷ []
-verdictWords (degenerate triangle) = 4 ∷ triangle ∷ 0 ∷ 0 ∷ []
+unfoldable pub indexPut : Validity → ℕ → ℕ
+unfolding wordFor
+indexPut sound before = before
+indexPut empty before = before
+indexPut (nonFinite vertex) before = before
+indexPut (outOfRange triangle index vertices) before = wordFor index
+indexPut (degenerate triangle) before = before
+
+unfoldable pub verticesPut : Validity → ℕ → ℕ
+unfolding wordFor
+verticesPut sound before = before
+verticesPut empty before = before
+verticesPut (nonFinite vertex) before = before
+verticesPut (outOfRange triangle index vertices) before = wordFor vertices
+verticesPut (degenerate triangle) before = before
 
 -- ---- what is lent as numbers
 
@@ -106,9 +88,6 @@ gridOf x y sin cos start spacing = record { «origin_x» = x; «origin_y» = y; 
 unfoldable pub gridIf : Bool → ElevationGrid → JunctionGrid
 gridIf there g = cond there (Present g) Absent
 
--- the coordinates of the ring, and the plain lookup's answer
+-- the coordinates of the ring
 abbrev pub ringFloats : List ℕ → List Float → List Float
 ringFloats = resultOf
-
-abbrev pub plainAnswer : Mesh → Float → Float → Answer Lookup
-plainAnswer = answerOf

@@ -1,32 +1,22 @@
-// How an answer is told across the border: a code is returned, and the values stand in the answer slice.
+// How an answer is told across the border: a code is returned, and what else there is to tell goes into the
+// numbers that are lent for it.
 ghost use mathlib.Core.Path.{_≡_};
-ghost use mathlib.Core.List.{List, [], _∷_, _++_};
-ghost use Prim.Native.Nat.{ℕ, _<_, _≤_};
-ghost use lib.Ieee.{Float};
-ghost use lib.ListN.{length, drop, replicate};
-ghost use lib.Seq.{sets};
-ghost use Rattle.shape.specs.Refusal.{leaves, numberOf, placeOf};
-ghost use Rattle.shape.specs.Lists.{Mesh};
+ghost use Rattle.shape.specs.Refusal.{numberOf, placeOf};
 ghost use Rattle.shape.specs.Elevation.{answered};
 ghost use Rattle.shape.specs.Outline.{readOutline};
 ghost use Rattle.shape.specs.Ears.{readEars};
 ghost use Rattle.shape.specs.JunctionMesh.{readGround};
 ghost use Rattle.shape.specs.SurfaceMesh.{readMesh};
 ghost use Rattle.shape.specs.Verdict.{readVerdict};
-ghost use Rattle.lookup.specs.Plain.{readAnswer};
 ghost use Rattle.lookup.specs.Index.{readBuilt};
-ghost use Rattle.lookup.specs.Sampler.{topOf};
-ghost use Rattle.lookup.specs.Batch.{recordOf, recordsOf, topsOf, readSampling};
+ghost use Rattle.lookup.specs.Batch.{wordFor, readSampling};
 ghost use Rattle.surface.specs.File.{readCopied};
-ghost use Rattle.roadsurface.specs.Answers.{codeFor, Told, bitOf, spotWords, outlineWords, countWords, meshWords, lookupWords, sampleWords, verdictWords};
+ghost use Rattle.roadsurface.specs.Answers.{codeFor, codeOf, leftIn, bitOf, foundIn, heightPut, kindOf, placePut, indexPut, verticesPut};
 use lookup::grid::Built;
-use lookup::mesh::Answer;
 use lookup::sampler::Sampling;
 use lookup::sampler::number;
 use lookup::sampler::place;
 use lookup::sampler::word;
-use rounding::bits::bits32;
-use rounding::bits::bits64;
 use shape::ears::EarAnswer;
 use shape::elevation::Elevation;
 use shape::junction::JunctionAnswer;
@@ -43,235 +33,161 @@ fn wide(x: u32) -> u64
     x as u64
 }
 
-// A test as a word.
-fn bit(b: bool) -> u64
+// A test as a number.
+fn bit(b: bool) -> u32
     ensures { λ r. ⌜ r ≡ bitOf b ⌝ }
 {
     if b { 1 } else { 0 }
 }
 
 // The code of a refusal.
-pub fn code(r: Refusal) -> u64
+fn code(r: Refusal) -> u64
     ensures { λ c. ⌜ c ≡ codeFor (numberOf r) (placeOf r) ⌝ }
 {
     wide(number(r)) * 0x1_0000_0000 + wide(word(place(r)))
 }
 
-// The code of an answer slice of fewer than n words.
-pub fn short(n: u64) -> u64
-    requires { ⌜ n < 16 ⌝ }
-    ensures { λ c. ⌜ c ≡ codeFor 3 n ⌝ }
+// The code of a call that is taken, which made or found so many.
+fn count(n: usize) -> u64
+    ensures { λ c. ⌜ c ≡ wordFor n ⌝ }
 {
-    0x3_0000_0000 + n
+    wide(word(n))
 }
 
-// The first n words become 0.
-fn clear(answer: &mut [u64], n: usize)
-    requires { ⌜ n ≤ length (now answer) ⌝ }
-    ensures { λ _. ⌜ now (answer .exit) ≡ replicate n 0 ++ drop n (now (answer .entry)) ⌝ }
-{
-    let mut i: usize = 0;
-    while i < n {
-        answer[i] = 0;
-        i += 1;
-    }
-}
-
-pub fn tell_elevation(answer: &mut [u64], a: Elevation) -> u64
-    requires { ⌜ 2 ≤ length (now answer) ⌝ }
-    ensures { λ r. ⌜ Told (answered a) spotWords (now (answer .entry)) (now (answer .exit)) r ⌝ }
+pub(crate) fn tell_elevation(a: Elevation, height: &mut f64) -> u64
+    ensures { λ r. ⌜ r ≡ codeOf foundIn (answered a) ⌝ }
+    ensures { λ _. ⌜ now (height .exit) ≡ leftIn heightPut (answered a) (now (height .entry)) ⌝ }
 {
     match a {
         Elevation::Height(z) => {
-            answer[0] = 1;
-            answer[1] = bits64(z);
-            0
+            *height = z;
+            1
         }
-        Elevation::None => {
-            clear(answer, 2);
-            0
-        }
+        Elevation::None => 0,
         Elevation::Refused(r) => code(r),
     }
 }
 
-pub fn tell_outline(answer: &mut [u64], a: OutlineAnswer) -> u64
-    requires { ⌜ 5 ≤ length (now answer) ⌝ }
-    ensures { λ r. ⌜ Told (readOutline a) outlineWords (now (answer .entry)) (now (answer .exit)) r ⌝ }
+pub(crate) fn tell_outline(
+    a: OutlineAnswer,
+    dropped: &mut u32,
+    gap: &mut f32,
+    closed: &mut u32,
+    turned: &mut u32,
+) -> u64
+    ensures { λ r. ⌜ r ≡ codeOf (λ o. o .count) (readOutline a) ⌝ }
+    ensures { λ _. ⌜ now (dropped .exit) ≡ leftIn (λ o _. wordFor (o .dropped)) (readOutline a) (now (dropped .entry)) ⌝ }
+    ensures { λ _. ⌜ now (gap .exit) ≡ leftIn (λ o _. o .gap) (readOutline a) (now (gap .entry)) ⌝ }
+    ensures { λ _. ⌜ now (closed .exit) ≡ leftIn (λ o _. bitOf (o .closed)) (readOutline a) (now (closed .entry)) ⌝ }
+    ensures { λ _. ⌜ now (turned .exit) ≡ leftIn (λ o _. bitOf (o .turned)) (readOutline a) (now (turned .entry)) ⌝ }
 {
     match a {
         OutlineAnswer::Made(o) => {
-            answer[0] = o.count as u64;
-            answer[1] = o.dropped as u64;
-            answer[2] = wide(bits32(o.gap));
-            answer[3] = bit(o.closed);
-            answer[4] = bit(o.turned);
-            0
+            *dropped = word(o.dropped);
+            *gap = o.gap;
+            *closed = bit(o.closed);
+            *turned = bit(o.turned);
+            count(o.count)
         }
         OutlineAnswer::Refused(r) => code(r),
     }
 }
 
-pub fn tell_ears(answer: &mut [u64], a: EarAnswer) -> u64
-    requires { ⌜ 1 ≤ length (now answer) ⌝ }
-    ensures { λ r. ⌜ Told (readEars a) countWords (now (answer .entry)) (now (answer .exit)) r ⌝ }
+pub(crate) fn tell_ears(a: EarAnswer) -> u64
+    ensures { λ r. ⌜ r ≡ codeOf (λ n. n) (readEars a) ⌝ }
 {
     match a {
-        EarAnswer::Count(n) => {
-            answer[0] = n as u64;
-            0
-        }
+        EarAnswer::Count(n) => count(n),
         EarAnswer::Refused(r) => code(r),
     }
 }
 
-pub fn tell_junction(answer: &mut [u64], a: JunctionAnswer) -> u64
-    requires { ⌜ 1 ≤ length (now answer) ⌝ }
-    ensures { λ r. ⌜ Told (readGround a) countWords (now (answer .entry)) (now (answer .exit)) r ⌝ }
+pub(crate) fn tell_junction(a: JunctionAnswer) -> u64
+    ensures { λ r. ⌜ r ≡ codeOf (λ n. n) (readGround a) ⌝ }
 {
     match a {
-        JunctionAnswer::Made(n) => {
-            answer[0] = n as u64;
-            0
-        }
+        JunctionAnswer::Made(n) => count(n),
         JunctionAnswer::Refused(r) => code(r),
     }
 }
 
-pub fn tell_mesh(answer: &mut [u64], a: MeshAnswer) -> u64
-    requires { ⌜ 4 ≤ length (now answer) ⌝ }
-    ensures { λ r. ⌜ Told (readMesh a) meshWords (now (answer .entry)) (now (answer .exit)) r ⌝ }
+pub(crate) fn tell_mesh(
+    a: MeshAnswer,
+    normal_count: &mut u32,
+    index_count: &mut u32,
+    span_count: &mut u32,
+) -> u64
+    ensures { λ r. ⌜ r ≡ codeOf (λ m. m .vertices) (readMesh a) ⌝ }
+    ensures { λ _. ⌜ now («normal_count» .exit) ≡ leftIn (λ m _. wordFor (m .normals)) (readMesh a) (now («normal_count» .entry)) ⌝ }
+    ensures { λ _. ⌜ now («index_count» .exit) ≡ leftIn (λ m _. wordFor (m .indices)) (readMesh a) (now («index_count» .entry)) ⌝ }
+    ensures { λ _. ⌜ now («span_count» .exit) ≡ leftIn (λ m _. wordFor (m .spans)) (readMesh a) (now («span_count» .entry)) ⌝ }
 {
     match a {
         MeshAnswer::Made(m) => {
-            answer[0] = m.vertices as u64;
-            answer[1] = m.normals as u64;
-            answer[2] = m.indices as u64;
-            answer[3] = m.spans as u64;
-            0
+            *normal_count = word(m.normals);
+            *index_count = word(m.indices);
+            *span_count = word(m.spans);
+            count(m.vertices)
         }
         MeshAnswer::Refused(r) => code(r),
     }
 }
 
-pub fn tell_lookup(answer: &mut [u64], a: Answer) -> u64
-    requires { ⌜ 6 ≤ length (now answer) ⌝ }
-    ensures { λ r. ⌜ Told (readAnswer a) lookupWords (now (answer .entry)) (now (answer .exit)) r ⌝ }
+pub(crate) fn tell_built(a: Built) -> u64
+    ensures { λ r. ⌜ r ≡ codeOf (λ n. n) (readBuilt a) ⌝ }
 {
     match a {
-        Answer::Found(h, n, t) => {
-            answer[0] = 1;
-            answer[1] = wide(bits32(h));
-            answer[2] = wide(bits32(n.x));
-            answer[3] = wide(bits32(n.y));
-            answer[4] = wide(bits32(n.z));
-            answer[5] = t as u64;
-            0
-        }
-        Answer::None => {
-            clear(answer, 6);
-            0
-        }
-        Answer::Refused(r) => code(r),
-    }
-}
-
-pub fn tell_built(answer: &mut [u64], a: Built) -> u64
-    requires { ⌜ 1 ≤ length (now answer) ⌝ }
-    ensures { λ r. ⌜ Told (readBuilt a) countWords (now (answer .entry)) (now (answer .exit)) r ⌝ }
-{
-    match a {
-        Built::Words(n) => {
-            answer[0] = n as u64;
-            0
-        }
+        Built::Words(n) => count(n),
         Built::Refused(r) => code(r),
     }
 }
 
-// The eight words of a record at the front.
-fn put_record(answer: &mut [u64], words: &[u32])
-    requires { ⌜ (8 ≤ length (now answer)) × (length (now words) ≡ 8) ⌝ }
-    ensures { λ _. ⌜ now (answer .exit) ≡ now (words .entry) ++ drop 8 (now (answer .entry)) ⌝ }
-{
-    let mut i: usize = 0;
-    while i < 8 {
-        answer[i] = wide(words[i]);
-        i += 1;
-    }
-}
-
-// The record of a point, word by word, or why its cell is refused.
-fn tell_words(answer: &mut [u64], words: &[u32]) -> u64
-    requires { ⌜ (8 ≤ length (now answer)) × (length (now words) ≡ 8) ⌝ }
-    ensures { λ r. ⌜ ((m : Mesh) (ws : List ℕ) (x y : Float) → now (words .entry) ≡ recordOf (topOf m ws x y) → Told (topOf m ws x y) sampleWords (now (answer .entry)) (now (answer .exit)) r) ⌝ }
-{
-    if words[0] == 2 {
-        return wide(words[1]) * 0x1_0000_0000 + wide(words[2]);
-    }
-    put_record(answer, words);
-    0
-}
-
-// One point that the call for many was asked: `a` is its answer, and `words` held zeros.
-pub fn tell_record(answer: &mut [u64], a: Sampling, words: &[u32]) -> u64
-    requires { ⌜ (8 ≤ length (now answer)) × (length (now words) ≡ 8) ⌝ }
-    ensures { λ r. ⌜ ((m : Mesh) (ws : List ℕ) (x y : Float) → readSampling a ≡ topsOf m ws (x ∷ y ∷ []) 8 → now (words .entry) ≡ leaves (topsOf m ws (x ∷ y ∷ []) 8) (recordsOf m ws (x ∷ y ∷ [])) (replicate 8 0) → Told (topOf m ws x y) sampleWords (now (answer .entry)) (now (answer .exit)) r) ⌝ }
+pub(crate) fn tell_sampling(a: Sampling) -> u64
+    ensures { λ r. ⌜ r ≡ codeOf (λ n. n) (readSampling a) ⌝ }
 {
     match a {
+        Sampling::Count(n) => count(n),
         Sampling::Refused(r) => code(r),
-        Sampling::Count(n) => tell_words(answer, words),
     }
 }
 
-pub fn tell_sampling(answer: &mut [u64], a: Sampling) -> u64
-    requires { ⌜ 1 ≤ length (now answer) ⌝ }
-    ensures { λ r. ⌜ Told (readSampling a) countWords (now (answer .entry)) (now (answer .exit)) r ⌝ }
+pub(crate) fn tell_verdict(
+    a: Verdict,
+    place: &mut u32,
+    index: &mut u32,
+    vertex_count: &mut u32,
+) -> u64
+    ensures { λ r. ⌜ r ≡ codeOf kindOf (readVerdict a) ⌝ }
+    ensures { λ _. ⌜ now (place .exit) ≡ leftIn placePut (readVerdict a) (now (place .entry)) ⌝ }
+    ensures { λ _. ⌜ now (index .exit) ≡ leftIn indexPut (readVerdict a) (now (index .entry)) ⌝ }
+    ensures { λ _. ⌜ now («vertex_count» .exit) ≡ leftIn verticesPut (readVerdict a) (now («vertex_count» .entry)) ⌝ }
 {
     match a {
-        Sampling::Count(n) => {
-            answer[0] = n as u64;
-            0
+        Verdict::Sound => 0,
+        Verdict::Empty => 1,
+        Verdict::NonFiniteVertex(v) => {
+            *place = word(v);
+            2
         }
-        Sampling::Refused(r) => code(r),
-    }
-}
-
-// Four words at the front, and the code of a call that is taken.
-fn put_four(answer: &mut [u64], kind: u64, a: usize, b: usize, c: usize) -> u64
-    requires { ⌜ 4 ≤ length (now answer) ⌝ }
-    ensures { λ r. ⌜ (r ≡ 0) × (now (answer .exit) ≡ sets (now (answer .entry)) 0 (kind ∷ a ∷ b ∷ c ∷ [])) ⌝ }
-{
-    answer[0] = kind;
-    answer[1] = a as u64;
-    answer[2] = b as u64;
-    answer[3] = c as u64;
-    0
-}
-
-pub fn tell_verdict(answer: &mut [u64], a: Verdict) -> u64
-    requires { ⌜ 4 ≤ length (now answer) ⌝ }
-    ensures { λ r. ⌜ Told (readVerdict a) verdictWords (now (answer .entry)) (now (answer .exit)) r ⌝ }
-{
-    match a {
-        Verdict::Sound => put_four(answer, 0, 0, 0, 0),
-        Verdict::Empty => put_four(answer, 1, 0, 0, 0),
-        Verdict::NonFiniteVertex(v) => put_four(answer, 2, v, 0, 0),
-        Verdict::IndexOutOfRange(t, i, n) => put_four(answer, 3, t, i, n),
-        Verdict::DegenerateTriangle(t) => put_four(answer, 4, t, 0, 0),
+        Verdict::IndexOutOfRange(t, i, n) => {
+            *place = word(t);
+            *index = word(i);
+            *vertex_count = word(n);
+            3
+        }
+        Verdict::DegenerateTriangle(t) => {
+            *place = word(t);
+            4
+        }
         Verdict::Refused(r) => code(r),
     }
 }
 
-pub fn tell_copied(answer: &mut [u64], a: Copied) -> u64
-    requires { ⌜ 1 ≤ length (now answer) ⌝ }
-    ensures { λ r. ⌜ Told (readCopied a) countWords (now (answer .entry)) (now (answer .exit)) r ⌝ }
+pub(crate) fn tell_copied(a: Copied) -> u64
+    ensures { λ r. ⌜ r ≡ codeOf (λ n. n) (readCopied a) ⌝ }
 {
     match a {
-        Copied::Count(n) => {
-            answer[0] = n as u64;
-            0
-        }
+        Copied::Count(n) => count(n),
         Copied::Refused(r) => code(r),
     }
 }

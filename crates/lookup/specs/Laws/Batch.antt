@@ -1,31 +1,31 @@
--- Every number of a point's answer fits a word of 32 bits, so that no record is cut: the place of a refusal, the triangle, and the lane, which is a word
--- of the spans. Assumes nothing.
+-- Every number of a point's record fits a word of 32 bits: the place of a cell's refusal, the triangle, and the lane, which is a word of the spans. And what the
+-- call for many points leaves is, point by point, the record of the single call. Assumes nothing.
 use Prim.Native.Nat.{ℕ, _+_, _*_, _/_, _<_}
-use mathlib.Core.Path.{_≡_, refl, sym}
+use mathlib.Core.Path.{_≡_, refl, sym, subst}
 use mathlib.Core.Bool.{Bool, true, false, cond, _&&_}
-use mathlib.Core.List.{List, [], _∷_}
+use mathlib.Core.List.{List}
 use native.Mathlib.Omega.{arith}
 use lib.Dec.{ltb, leb}
 use lib.Ieee.{Float}
 use lib.ListN.{length, getD}
 use borrow.Author.Tests.{lt-ltb}
-use Rattle.shape.specs.Gather.{gather}
-use Rattle.shape.specs.Lists.{Mesh, uneven, wordOf, startOf}
-use Rattle.shape.specs.Refusal.{fine, refuse, Answer, taken, refused, judge}
+use Rattle.shape.specs.Lists.{Mesh, meshFault, wordOf, startOf}
+use Rattle.shape.specs.Refusal.{Fault, fine, fault, Answer, taken, refused, judge}
 use Rattle.lookup.specs.declared.mesh.Best.{Best}
 use Rattle.lookup.specs.declared.mesh.Best.the-variants.{At, Nothing}
 use Rattle.lookup.specs.declared.sampler.Lane.the-variants.{Id, None}
 use Rattle.lookup.specs.Mesh.{triangles}
-use Rattle.lookup.specs.Plain.{scanOf, entryOf}
+use Rattle.lookup.specs.Plain.{scanOf, entryOf, lookupOf, plainOf, answerOf}
 use Rattle.lookup.specs.Consult.{Place, runIn, consultOf}
-use Rattle.lookup.specs.Sampler.{pastOf, laneOf, topFault, sampleOf, sampleIn, onward, topOf}
-use Rattle.lookup.specs.Batch.{laneId, recordOf, recordAt, recordsOf, pointsFault, topsOf, wordFor, cutRecord}
+use Rattle.lookup.specs.Sampler.{pastOf, laneOf, topFault, Sample, sampleOf, sampleIn, onward, topOf}
+use Rattle.lookup.specs.Batch.{laneId, wordFor}
+use Rattle.lookup.specs.Record.{plainSample, InWords}
 use Rattle.lookup.specs.Laws.Scan.{scan-found}
 use Rattle.lookup.specs.Laws.Plain.{covers-below}
 use Rattle.lookup.specs.Laws.Limits.{in-order, mesh-in-order, index-in-order}
-use Rattle.lookup.specs.Laws.Faults.{consult-holds}
+use Rattle.lookup.specs.Laws.Faults.{never, consult-holds}
 
-word-is : (n : ℕ) → n < 4294967296 → wordFor n ≡ n
+pub word-is : (n : ℕ) → n < 4294967296 → wordFor n ≡ n
 unfolding wordFor
 word-is n h = rw (lt-ltb n 4294967296 h)
 
@@ -41,36 +41,52 @@ lane-word ss w t =
     go true i = w i
     go false i = omega arith
 
-module _ (m : Mesh) (ws : List ℕ) (x y : Float) (f : topFault m ws ≡ fine) (w : (i : ℕ) → getD (m .spans) i 0 < 4294967296) where
-  best : (run : List ℕ) (s : Best) → s ≡ scanOf (m .vertices) (m .indices) x y (entryOf run) (length run)
-      → cutRecord (taken (sampleOf m x y s)) ≡ recordOf (taken (sampleOf m x y s))
-  unfolding cutRecord recordOf sampleOf
-  best run (At h t) e =
-      let l = covers-below m x y t (scan-found (m .vertices) (m .indices) x y (entryOf run) (length run) (sym e) .covered) in
-      let o = in-order m (mesh-in-order m ws f) in
-      rw (word-is t (omega (arith, l, o .indices)), word-is (laneId (laneOf (m .spans) t)) (lane-word (m .spans) w t))
-  best run Nothing e = refl
+module _ (m : Mesh) (x y : Float) (f : meshFault m ≡ fine) where
+  triangle-word : (seq : ℕ → ℕ) (n : ℕ) {h : Float} {t : ℕ} → scanOf (m .vertices) (m .indices) x y seq n ≡ At h t → t < 4294967296
+  triangle-word seq n {h} {t} e =
+      let l = covers-below m x y t (scan-found (m .vertices) (m .indices) x y seq n e .covered) in
+      let o = in-order m f in
+      omega (arith, l, o .indices)
 
-  -- no record is cut
-  pub uncut : cutRecord (topOf m ws x y) ≡ recordOf (topOf m ws x y)
-  unfolding topOf judge onward sampleIn cutRecord recordOf
-  uncut =
+  sample-words : ((i : ℕ) → getD (m .spans) i 0 < 4294967296) → (run : List ℕ) (s : Best)
+      → s ≡ scanOf (m .vertices) (m .indices) x y (entryOf run) (length run) → InWords (taken (sampleOf m x y s))
+  unfolding InWords sampleOf
+  sample-words w run (At h t) e = (triangle-word (entryOf run) (length run) (sym e), lane-word (m .spans) w t)
+  sample-words w run Nothing e = tt
+
+  lookup-words : (s : Best) → s ≡ scanOf (m .vertices) (m .indices) x y (λ t. t) (triangles (m .indices)) → InWords (plainSample (taken (lookupOf m x y s)))
+  unfolding InWords plainSample lookupOf
+  lookup-words (At h t) e = (triangle-word (λ t. t) (triangles (m .indices)) (sym e), omega arith)
+  lookup-words Nothing e = tt
+
+module _ (m : Mesh) (ws : List ℕ) (x y : Float) (w : (i : ℕ) → getD (m .spans) i 0 < 4294967296) where
+  pub top-words : topFault m ws ≡ fine → InWords (topOf m ws x y)
+  unfolding topOf judge onward sampleIn InWords
+  top-words f =
       let n = triangles (m .indices) in
-      rw f (go (consultOf ws n x y) (consult-holds (λ (k p : ℕ). p < 4294967296) (λ p l. l) ws n (index-in-order m ws f) x y))
+      rw f (go f (consultOf ws n x y) (consult-holds (λ (k p : ℕ). p < 4294967296) (λ p l. l) ws n (index-in-order m ws f) x y))
     where
-      go : (a : Answer Place) → ((k p : ℕ) → a ≡ refused k p → p < 4294967296)
-          → cutRecord (onward a (λ (p : Place). sampleIn m x y (runIn ws p))) ≡ recordOf (onward a (λ (p : Place). sampleIn m x y (runIn ws p)))
-      go (taken p) h = best (runIn ws p) _ refl
-      go (refused k p) h = rw (word-is p (h k p refl))
+      go : topFault m ws ≡ fine → (a : Answer Place) → ((k p : ℕ) → a ≡ refused k p → p < 4294967296)
+          → InWords (onward a (λ (p : Place). sampleIn m x y (runIn ws p)))
+      go f (taken p) h = sample-words m x y (mesh-in-order m ws f) w (runIn ws p) _ refl
+      go f (refused k p) h = h k p refl
 
--- ---- one point
+  -- an answer that is taken passed the checks
+  top-fine : {a : Sample} → topOf m ws x y ≡ taken a → topFault m ws ≡ fine
+  unfolding topOf judge
+  top-fine e = go (topFault m ws) _ e
+    where
+      go : (f : Fault) (b : Answer Sample) {a : Sample} → judge f b ≡ taken a → f ≡ fine
+      go fine b e = refl
+      go (fault k p) b e = absurd (never (sym e))
 
-module _ (m : Mesh) (ws : List ℕ) (x y : Float) where
-  -- the call for many points, asked of one with room for its record
-  pub one-taken : topsOf m ws (x ∷ y ∷ []) 8 ≡ judge (topFault m ws) (taken 1)
-  unfolding topsOf pointsFault judge refuse uneven
-  one-taken = refl
+  pub taken-words : (a : Sample) → topOf m ws x y ≡ taken a → InWords (taken a)
+  taken-words a e = subst InWords e (top-words (top-fine e))
 
-  pub one-record : recordsOf m ws (x ∷ y ∷ []) ≡ recordOf (topOf m ws x y)
-  unfolding recordsOf recordAt gather
-  one-record = refl
+pub plain-words : (m : Mesh) (x y : Float) (a : Sample) → plainSample (answerOf m x y) ≡ taken a → InWords (taken a)
+unfolding answerOf plainOf judge plainSample
+plain-words m x y a e = go (meshFault m) refl e
+  where
+    go : (f : Fault) → meshFault m ≡ f → plainSample (judge f (taken (plainOf m x y))) ≡ taken a → InWords (taken a)
+    go fine f e = subst InWords e (lookup-words m x y f _ refl)
+    go (fault k p) f e = absurd (never (sym e))

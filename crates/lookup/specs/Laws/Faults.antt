@@ -11,7 +11,6 @@ use lib.ListN.{length}
 use borrow.Author.Tests.{ltb-false, ne-eqb, eqb-false}
 use Rattle.shape.specs.Refusal.{Fault, fine, fault, refuse, Answer, taken, refused, judge}
 use Rattle.lookup.specs.Consult.{wordAt, sides, declares, headFault, inside, cellAt, startAt, firstAt, orElse, entryFault, startFault, nowhere, runOf, consultOf}
-use Rattle.lookup.specs.Sampler.{onward}
 use Rattle.lookup.specs.Laws.Heads.{passed, head-sided, cell-small}
 
 pub never : {A : Type 0} {a : A} {k p : ℕ} → taken a ≡ refused k p → ⊥
@@ -63,11 +62,6 @@ module _ (P : ℕ → ℕ → Type 0) where
   unfolding judge
   holds-judge fine a h g k p e = g refl k p e
   holds-judge (fault i q) a h g k p e = h k p (cc)
-
-  pub holds-onward : {A B : Type 0} (a : Answer A) (f : A → B) → HoldsIn a → HoldsIn (onward a f)
-  unfolding onward
-  holds-onward (taken a) f h k p e = absurd (never e)
-  holds-onward (refused i q) f h k p e = h k p (cc)
 
   module _ (small : (p : ℕ) → p < 4294967296 → P 4 p) (ws : List ℕ) (count : ℕ) (few : length ws ≤ 4194304) where
     head-holds : Holds (headFault ws count)

@@ -1,39 +1,20 @@
 -- `roadsurface::rs_build_index` meets its contract: what is told is the inner call's answer. Assumes nothing.
-use Rattle.roadsurface.specs.Answers.{countWords}
-use Rattle.roadsurface.proofs.Telling.{leaves-lent, leaves-short, told-lent, told-short}
+use Rattle.roadsurface.proofs.Telling.{code-of}
 use borrow.Author.Needs.{needs}
 use Rattle.roadsurface.proofs.rs_build_index.Statement.{statement}
 use Rattle.roadsurface.proofs.rs_build_index.Tie as tie
 
-short-requires : tie.Need-short-requires
-short-requires c κs = search needs
-
-returns : tie.Need-returns
-returns c = (told-short countWords 1 _ _ (c .before .if1 .taken) (c .short .ensures), leaves-short 1 _ _ (c .before .if1 .taken) _ _)
-
 build-requires : tie.Need-build-requires
-build-requires c κs = search needs
+build-requires = search needs
 
 tell-built-requires : tie.Need-tell-built-requires
-tell-built-requires c κs = search needs
+tell-built-requires = search needs
 
 same-length : tie.Need-same-length
-same-length c = search needs
+same-length = search needs
 
-same-length-2 : tie.Need-same-length-2
-same-length-2 c = search needs
-
-returns-2 : tie.Need-returns-2
-returns-2 c = (told-lent countWords 1 _ _ (c .before .before .before .before .before .before .before .before .if1 .left) (c .before .before .before .before .before .before .build .ensures .0) (c .before .before .tell-built .ensures), leaves-lent 1 _ _ (c .before .before .before .before .before .before .before .before .if1 .left) _ _ (c .before .before .before .before .before .before .build .ensures .1))
+returns : tie.Need-returns
+returns c = (search code-of, search)
 
 pub rs-build-index-spec : {M : Type 1} → statement M
-rs-build-index-spec =
-    tie.close
-    (tie.spec
-    short-requires
-    returns
-    build-requires
-    tell-built-requires
-    same-length
-    same-length-2
-    returns-2)
+rs-build-index-spec = tie.close (search (tie.spec, build-requires, tell-built-requires, same-length, returns))

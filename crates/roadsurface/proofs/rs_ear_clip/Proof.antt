@@ -1,39 +1,20 @@
 -- `roadsurface::rs_ear_clip` meets its contract: what is told is the inner call's answer. Assumes nothing.
-use Rattle.roadsurface.specs.Answers.{countWords}
-use Rattle.roadsurface.proofs.Telling.{leaves-lent, leaves-short, told-lent, told-short}
+use Rattle.roadsurface.proofs.Telling.{code-of}
 use borrow.Author.Needs.{needs}
 use Rattle.roadsurface.proofs.rs_ear_clip.Statement.{statement}
 use Rattle.roadsurface.proofs.rs_ear_clip.Tie as tie
 
-short-requires : tie.Need-short-requires
-short-requires c κs = search needs
-
-returns : tie.Need-returns
-returns c = (told-short countWords 1 _ _ (c .before .if1 .taken) (c .short .ensures), leaves-short 1 _ _ (c .before .if1 .taken) _ _)
-
 ear-clip-requires : tie.Need-ear-clip-requires
-ear-clip-requires c κs = search needs
+ear-clip-requires = search needs
 
 tell-ears-requires : tie.Need-tell-ears-requires
-tell-ears-requires c κs = search needs
+tell-ears-requires = search needs
 
 same-length : tie.Need-same-length
-same-length c = search needs
+same-length = search needs
 
-same-length-2 : tie.Need-same-length-2
-same-length-2 c = search needs
-
-returns-2 : tie.Need-returns-2
-returns-2 c = (told-lent countWords 1 _ _ (c .before .before .before .before .before .before .before .before .if1 .left) (c .before .before .before .before .before .before .ear-clip .ensures .0) (c .before .before .tell-ears .ensures), leaves-lent 1 _ _ (c .before .before .before .before .before .before .before .before .if1 .left) _ _ (c .before .before .before .before .before .before .ear-clip .ensures .1))
+returns : tie.Need-returns
+returns c = (search code-of, search)
 
 pub rs-ear-clip-spec : {M : Type 1} → statement M
-rs-ear-clip-spec =
-    tie.close
-    (tie.spec
-    short-requires
-    returns
-    ear-clip-requires
-    tell-ears-requires
-    same-length
-    same-length-2
-    returns-2)
+rs-ear-clip-spec = tie.close (search (tie.spec, ear-clip-requires, tell-ears-requires, same-length, returns))

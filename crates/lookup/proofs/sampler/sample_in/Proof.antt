@@ -13,8 +13,14 @@ use Rattle.lookup.proofs.sampler.sample_in.Tie as tie
 abbrev M : tie.Start → Mesh
 M s = meshLists (s .args .vertices .now) (s .args .normals .now) (s .args .indices .now) (s .args .spans .now)
 
+abbrev L : tie.After-locate → tie.Start
+L c = c .before .before .before .before .before .before
+
+abbrev H : tie.After-highest-in → tie.After-locate
+H c = c .before .before .before .before .before
+
 locate-requires : tie.Need-locate-requires
-locate-requires c κs = (c .before .before .before .before .before .before .before .before .before .pre .1 .0 .sided, c .before .before .before .before .before .before .before .before .before .pre .1 .0 .is)
+locate-requires c κs = (c .before .before .before .before .before .pre .1 .sided, c .before .before .before .before .before .pre .1 .is)
 
 enum-known-r : tie.Need-enum-known-r
 enum-known-r c = search needs
@@ -29,69 +35,46 @@ at-requires : tie.Need-at-requires
 at-requires c κs = search needs
 
 highest-in-requires : tie.Need-highest-in-requires
-highest-in-requires c κs = c .before .before .before .before .before .before .before .before .before .before .before .before .before .before .before .before .before .before .pre .1 .1
+highest-in-requires c κs = search needs
 
 run-check-requires : tie.Need-run-check-requires
-run-check-requires c κs = λ w r. run-sound _ _ _ _ _ _ (c .before .before .before .before .before .before .before .before .before .before .before .before .before .at .ensures) r (c .before .before .before .before .before .before .before .before .highest-in .ensures .0 .there w)
+run-check-requires c κs = λ w r. run-sound _ _ _ _ _ _ (c .before .at .ensures) r (c .highest-in .ensures .0 .there w)
 
 enum-known-check : tie.Need-enum-known-check
 enum-known-check c = search needs
 
-same-length : tie.Need-same-length
-same-length c = search needs
-
-same-length-2 : tie.Need-same-length-2
-same-length-2 c = search needs
-
-same-length-3 : tie.Need-same-length-3
-same-length-3 c = search needs
-
-same-length-4 : tie.Need-same-length-4
-same-length-4 c = search needs
-
 returns : tie.Need-returns
 unfolding readSampled
 returns c =
-    let s = c .before .before .before .before .before .before .before .before .before .before .before .before .before .before .before .before .before .before .before .before .before .before .before .before .before .before .before .before .before .before .before in
-    refuses (M s) _ _ _ (s .pre .0) (run-is _ _ (c .before .before .before .before .before .before .before .before .before .before .before .before .before .before .before .before .before .before .before .before .before .locate .ensures _ (s .pre .1 .0 .sound)) (c .before .before .before .before .before .before .before .before .before .before .before .before .before .before .before .before .before .before .before .from .given .1) .foreign _ _ (faulty (c .before .check .given .1) (c .before .before .before .run-check .ensures)))
+    let l = H (c .before .before .before .before) in
+    let s = L l in
+    refuses (M s) _ _ _ (s .pre .0) (run-is _ _ (l .locate .ensures _ (s .pre .1 .sound)) (c .before .before .before .before .before .before .before .from .given .1) .foreign _ _ (faulty (c .before .check .given .1) (c .before .before .before .run-check .ensures)))
 
 enum-told-2 : tie.Need-enum-told-2
 enum-told-2 c = search needs
 
 told-requires : tie.Need-told-requires
 told-requires c κs =
-    let s = c .before .before .before .before .before .before .before .before .before .before .before .before .before .before .before .before .before .before .before .before .before .before .before .before .before .before .before .before .before .before in
+    let s = L (H (c .before .before .before)) in
     let o = ordered (M s) _ (s .args .x) (s .args .y) (s .pre .0) in
-    ((small (M s) _ (s .args .x) (s .args .y) (s .pre .0) _ (c .before .before .before .before .before .before .before .before .before .before .before .before .before .before .before .before .at .ensures) _ (c .before .before .before .before .before .before .before .before .before .before .before .highest-in .ensures .0 .found), o .spans, o .ends), c .before .before .before .before .before .before .before .before .before .before .before .highest-in .ensures .1)
+    let h = c .before .before .before .highest-in .ensures in
+    ((small (M s) _ (s .args .x) (s .args .y) (s .pre .0) _ (c .before .before .before .before .at .ensures) _ (h .0 .found), o .spans, o .ends), h .1)
 
 returns-2 : tie.Need-returns-2
 unfolding readSampled
-returns-2 c =
-    let s = c .before .before .before .before .before .before .before .before .before .before .before .before .before in
-    refuses (M s) _ _ _ (s .pre .0) (refused-is _ _ (c .before .before .before .locate .ensures _ (s .pre .1 .0 .sound)) (c .before .r .given .1))
+returns-2 c = let s = L (c .before .before .before) in refuses (M s) _ _ _ (s .pre .0) (refused-is _ _ (c .before .before .before .locate .ensures _ (s .pre .1 .sound)) (c .before .r .given .1))
 
 returns-3 : tie.Need-returns-3
 unfolding readSampled
-returns-3 c =
-    let s = c .before .before .before .before .before .before .before .before .before .before .before .before in
-    nothing (M s) _ _ _ (s .pre .0) (nowhere-is _ _ (c .before .before .locate .ensures _ (s .pre .1 .0 .sound)) (c .enum-told .given .1))
-
-same-length-5 : tie.Need-same-length-5
-same-length-5 c = search needs
-
-same-length-6 : tie.Need-same-length-6
-same-length-6 c = search needs
-
-same-length-7 : tie.Need-same-length-7
-same-length-7 c = search needs
-
-same-length-8 : tie.Need-same-length-8
-same-length-8 c = search needs
+returns-3 c = let s = L (c .before .before) in nothing (M s) _ _ _ (s .pre .0) (nowhere-is _ _ (c .before .before .locate .ensures _ (s .pre .1 .sound)) (c .enum-told .given .1))
 
 returns-4 : tie.Need-returns-4
 returns-4 c =
-    let s = c .before .before .before .before .before .before .before .before .before .before .before .before .before .before .before .before .before .before .before .before .before .before .before .before .before .before .before .before .before .before .before in
-    c .told .ensures ∙ gives (M s) _ _ _ (s .pre .0) (run-is _ _ (c .before .before .before .before .before .before .before .before .before .before .before .before .before .before .before .before .before .before .before .before .before .locate .ensures _ (s .pre .1 .0 .sound)) (c .before .before .before .before .before .before .before .before .before .before .before .before .before .before .before .before .before .before .before .from .given .1) .sound (sound (c .before .enum-told2 .given .1) (c .before .before .before .run-check .ensures))) (c .before .before .before .before .before .before .before .before .before .before .before .before .before .before .before .before .before .at .ensures) (c .before .before .before .before .before .before .before .before .before .before .before .before .highest-in .ensures .0 .found)
+    let l = H (c .before .before .before .before) in
+    let s = L l in
+    c .told .ensures
+    ∙ gives (M s) _ _ _ (s .pre .0) (run-is _ _ (l .locate .ensures _ (s .pre .1 .sound)) (c .before .before .before .before .before .before .before .from .given .1) .sound (sound (c .before .enum-told2 .given .1) (c .before .before .before .run-check .ensures)))
+    (c .before .before .before .before .before .at .ensures) (c .before .before .before .before .highest-in .ensures .0 .found)
 
 pub sample-in-spec : {M : Type 1} → statement M
 sample-in-spec =
@@ -105,17 +88,9 @@ sample-in-spec =
     highest-in-requires
     run-check-requires
     enum-known-check
-    same-length
-    same-length-2
-    same-length-3
-    same-length-4
     returns
     enum-told-2
     told-requires
     returns-2
     returns-3
-    same-length-5
-    same-length-6
-    same-length-7
-    same-length-8
     returns-4)

@@ -1,58 +1,74 @@
--- `lookup::sampler::top` meets its contract: the call for many points turns it back, or leaves its record to be read. Assumes nothing.
-use mathlib.Core.Path.{refl}
+-- `lookup::sampler::top` meets its contract: the checks, what the first words tell, or else the answer in the cell. Assumes nothing.
 use Rattle.shape.specs.Lists.{Mesh, meshLists}
-use Rattle.lookup.specs.Batch.{readSampling}
-use Rattle.lookup.proofs.OnePoint.{turned-back, passed-on, record-left, foreign, singles}
+use Rattle.lookup.specs.Sampler.{readSampled}
+use Rattle.lookup.proofs.Answers.{turned-back, refuses, nothing}
+use Rattle.lookup.proofs.Chain.{sound, faulty}
+use Rattle.lookup.proofs.Fronts.{open-is, empty-is, foreign-is}
 use borrow.Author.Needs.{needs}
 use Rattle.lookup.proofs.sampler.top.Statement.{statement}
 use Rattle.lookup.proofs.sampler.top.Tie as tie
-
-slice-aggregate-tops : tie.Need-slice-aggregate-tops
-slice-aggregate-tops c = search needs
-
-slice-aggregate-tops-2 : tie.Need-slice-aggregate-tops-2
-slice-aggregate-tops-2 c = search needs
-
-tops-requires : tie.Need-tops-requires
-tops-requires c κs = search needs
-
-enum-known-r : tie.Need-enum-known-r
-enum-known-r c = search needs
-
-enum-known-n : tie.Need-enum-known-n
-enum-known-n c = search needs
-
-slice-aggregate-told-by : tie.Need-slice-aggregate-told-by
-slice-aggregate-told-by c = search needs
-
-told-by-requires : tie.Need-told-by-requires
-told-by-requires c κs = search needs
 
 -- the mesh
 abbrev M : tie.Start → Mesh
 M s = meshLists (s .args .vertices .now) (s .args .normals .now) (s .args .indices .now) (s .args .spans .now)
 
+abbrev T : tie.After-top-fault → tie.Start
+T c = c .before .before .before .before .before .before
+
+top-fault-requires : tie.Need-top-fault-requires
+top-fault-requires c κs = search needs
+
+enum-known-check : tie.Need-enum-known-check
+enum-known-check c = search needs
+
 returns : tie.Need-returns
-unfolding readSampling
-returns c = turned-back (M (c .before .before .before .before .before .before .before .before .before .before .before .before)) _ _ _ _ (rw (c .before .r .given .1) at (c .before .before .before .before .tops .ensures .0))
+unfolding readSampled
+returns c = turned-back (M (T (c .before .before .before))) _ _ _ (faulty (c .before .check .given .1) (c .before .before .before .top-fault .ensures))
+
+enum-told : tie.Need-enum-told
+enum-told c = search needs
+
+open-requires : tie.Need-open-requires
+open-requires c κs = search needs
+
+enum-known-r : tie.Need-enum-known-r
+enum-known-r c = search needs
+
+enum-told-2 : tie.Need-enum-told-2
+enum-told-2 c = search needs
+
+enum-known-h : tie.Need-enum-known-h
+enum-known-h c = search needs
+
+sample-in-requires : tie.Need-sample-in-requires
+sample-in-requires c κs = (sound (c .before .before .before .before .enum-told .given .1) (c .before .before .before .before .before .before .top-fault .ensures), open-is _ _ (c .before .before .before .«open» .ensures) (c .before .h .given .1))
 
 returns-2 : tie.Need-returns-2
-unfolding readSampling
+unfolding readSampled
 returns-2 c =
-    let s = c .before .before .before .before .before .before .before .before .before .before .before .before .before .before in
-    let e = rw (c .before .before .before .n .given .1) at (c .before .before .before .before .before .before .tops .ensures .0) in
-    c .told-by .ensures _ (record-left (M s) _ _ _ _ refl e (c .before .before .before .before .before .before .tops .ensures .1)) (foreign (M s) _ _ _ (passed-on (M s) _ _ _ e)) (singles (M s) _ _ _)
+    refuses (M (T (c .before .before .before .before .before .before))) _ _ _ (sound (c .before .before .before .before .enum-told .given .1) (c .before .before .before .before .before .before .top-fault .ensures)) (foreign-is _ _ (c .before .before .before .«open» .ensures) (c .before .r .given .1) _ _)
+
+returns-3 : tie.Need-returns-3
+unfolding readSampled
+returns-3 c =
+    nothing (M (T (c .before .before .before .before .before))) _ _ _ (sound (c .before .before .before .enum-told .given .1) (c .before .before .before .before .before .top-fault .ensures)) (empty-is _ _ (c .before .before .«open» .ensures) (c .enum-told2 .given .1) .1 _ _)
+
+returns-4 : tie.Need-returns-4
+returns-4 c = c .sample-in .ensures
 
 pub top-spec : {M : Type 1} → statement M
 top-spec =
     tie.close
     (tie.spec
-    slice-aggregate-tops
-    slice-aggregate-tops-2
-    tops-requires
-    enum-known-r
-    enum-known-n
-    slice-aggregate-told-by
-    told-by-requires
+    top-fault-requires
+    enum-known-check
     returns
-    returns-2)
+    enum-told
+    open-requires
+    enum-known-r
+    enum-told-2
+    enum-known-h
+    sample-in-requires
+    returns-2
+    returns-3
+    returns-4)

@@ -1,16 +1,26 @@
 -- `lookup::sampler::tops` meets its contract, by the test that led to each return. Assumes nothing.
-use mathlib.Core.Path.{_≡_}
-use Prim.Native.Nat.{_*_, _/_, _≤_, _<_}
-use native.Mathlib.Omega.{arith}
-use lib.ListN.{length}
-use Rattle.shape.specs.Lists.{meshLists}
-use Rattle.shape.specs.Refusal.{numberOf, placeOf}
+use mathlib.Core.Path.{_≡_, refl}
+use Rattle.shape.specs.Lists.{Mesh, meshLists}
+use Rattle.shape.specs.Refusal.{fine, taken, numberOf, placeOf}
+use Rattle.lookup.specs.Sampler.{topFault, miss}
 use Rattle.lookup.specs.Batch.{readSampling}
+use Rattle.lookup.proofs.Answers.{nothing}
 use Rattle.lookup.proofs.Chain.{sound, faulty}
-use Rattle.lookup.proofs.Batches.{said-faulty, said-ragged, said-short, said-all}
+use Rattle.lookup.proofs.Fronts.{open-is, empty-is, head-is}
+use Rattle.lookup.proofs.Batches.{all-same, said-faulty, said-ragged, said-foreign, said-rest}
 use borrow.Author.Needs.{needs}
 use Rattle.lookup.proofs.sampler.tops.Statement.{statement}
 use Rattle.lookup.proofs.sampler.tops.Tie as tie
+
+-- the mesh
+abbrev M : tie.Start → Mesh
+M s = meshLists (s .args .vertices .now) (s .args .normals .now) (s .args .indices .now) (s .args .spans .now)
+
+abbrev T : tie.After-top-fault → tie.Start
+T c = c .before .before .before .before .before .before .before .before
+
+fine-at : (c : tie.After-enum-told) → let s = T (c .before .before) in topFault (M s) (s .args .index .now) ≡ fine
+fine-at c = sound (c .enum-told .given .1) (c .before .before .top-fault .ensures)
 
 top-fault-requires : tie.Need-top-fault-requires
 top-fault-requires c κs = search needs
@@ -19,34 +29,57 @@ enum-known-check : tie.Need-enum-known-check
 enum-known-check c = search needs
 
 returns : tie.Need-returns
-returns c = said-faulty (meshLists (c .before .before .before .before .before .before .before .before .before .before .before .args .vertices .now) (c .before .before .before .before .before .before .before .before .before .before .before .args .normals .now) (c .before .before .before .before .before .before .before .before .before .before .before .args .indices .now) (c .before .before .before .before .before .before .before .before .before .before .before .args .spans .now)) _ _ _ _ (faulty (c .before .check .given .1) (c .before .before .before .top-fault .ensures))
+unfolding readSampling
+returns c = said-faulty (M (T (c .before .before .before))) _ _ _ (faulty (c .before .check .given .1) (c .before .before .before .top-fault .ensures))
 
 enum-told : tie.Need-enum-told
 enum-told c = search needs
 
 returns-2 : tie.Need-returns-2
 unfolding readSampling numberOf placeOf
-returns-2 c = said-ragged (meshLists (c .before .before .before .before .before .before .before .before .before .before .before .args .vertices .now) (c .before .before .before .before .before .before .before .before .before .before .before .args .normals .now) (c .before .before .before .before .before .before .before .before .before .before .before .args .indices .now) (c .before .before .before .before .before .before .before .before .before .before .before .args .spans .now)) _ _ _ (sound (c .before .enum-told .given .1) (c .before .before .before .top-fault .ensures)) (c .if1 .taken)
+returns-2 c = said-ragged (M (T (c .before .before .before))) _ _ _ (fine-at (c .before)) (c .if1 .taken)
 
-mul-if2 : tie.Need-mul-if2
-mul-if2 c = search needs
+open-requires : tie.Need-open-requires
+open-requires c κs = search needs
 
-mul-t15 : tie.Need-mul-t15
-mul-t15 c = search needs
+enum-known-r : tie.Need-enum-known-r
+enum-known-r c = search needs
+
+enum-told-2 : tie.Need-enum-told-2
+enum-told-2 c = search needs
+
+tops-empty-requires : tie.Need-tops-empty-requires
+tops-empty-requires c κs = search needs
+
+enum-known-h : tie.Need-enum-known-h
+enum-known-h c = search needs
+
+tops-open-requires : tie.Need-tops-open-requires
+tops-open-requires c κs = (fine-at (c .before .before .before .before .before .before), open-is _ _ (c .before .before .before .before .«open» .ensures) (c .before .before .h .given .1))
 
 returns-3 : tie.Need-returns-3
-unfolding readSampling numberOf placeOf
-returns-3 c = said-short (meshLists (c .before .before .before .before .before .before .before .before .before .before .before .before .args .vertices .now) (c .before .before .before .before .before .before .before .before .before .before .before .before .args .normals .now) (c .before .before .before .before .before .before .before .before .before .before .before .before .args .indices .now) (c .before .before .before .before .before .before .before .before .before .before .before .before .args .spans .now)) _ _ _ (sound (c .before .before .enum-told .given .1) (c .before .before .before .before .top-fault .ensures)) (c .before .if1 .left) (omega (arith, c .if2 .taken))
-
-put-points-requires : tie.Need-put-points-requires
-put-points-requires c κs = (sound (c .before .before .before .enum-told .given .1) (c .before .before .before .before .before .top-fault .ensures), omega (arith, c .before .if2 .left))
+unfolding readSampling
+returns-3 c = said-foreign (M (T (c .before .before .before .before .before .before .before))) _ _ _ (fine-at (c .before .before .before .before .before)) (c .before .before .before .before .if1 .left) (head-is _ _ (c .before .before .before .«open» .ensures) (c .before .r .given .1))
 
 same-length : tie.Need-same-length
 same-length c = search needs
 
 returns-4 : tie.Need-returns-4
-unfolding readSampling numberOf placeOf
-returns-4 c = said-all (meshLists (c .before .before .before .before .before .before .before .before .before .before .before .before .before .before .before .before .args .vertices .now) (c .before .before .before .before .before .before .before .before .before .before .before .before .before .before .before .before .args .normals .now) (c .before .before .before .before .before .before .before .before .before .before .before .before .before .before .before .before .args .indices .now) (c .before .before .before .before .before .before .before .before .before .before .before .before .before .before .before .before .args .spans .now)) _ _ _ (sound (c .before .before .before .before .before .before .enum-told .given .1) (c .before .before .before .before .before .before .before .before .top-fault .ensures)) (c .before .before .before .before .before .if1 .left) (omega (arith, c .before .before .before .before .if2 .left)) (c .before .before .put-points .ensures)
+returns-4 c =
+    let o = c .before .before .before .before .before .before in
+    let s = T (o .before .before .before .before) in
+    let f = fine-at (o .before .before) in
+    let e = empty-is _ _ (o .«open» .ensures) (c .before .before .before .before .enum-told2 .given .1) in
+    said-rest (M s) _ _ (s .args .answers .now) f (o .before .if1 .left) (e .0) (all-same (M s) _ _ (taken miss) (λ x y. nothing (M s) _ x y f (e .1 x y))) (c .before .before .tops-empty .ensures)
+
+same-length-2 : tie.Need-same-length-2
+same-length-2 c = search needs
+
+returns-5 : tie.Need-returns-5
+returns-5 c =
+    let o = c .before .before .before .before .before .before .before in
+    let s = T (o .before .before .before .before) in
+    said-rest (M s) _ _ (s .args .answers .now) (fine-at (o .before .before)) (o .before .if1 .left) (open-is _ _ (o .«open» .ensures) (c .before .before .before .before .before .h .given .1) .sound) refl (c .before .before .tops-open .ensures)
 
 pub tops-spec : {M : Type 1} → statement M
 tops-spec =
@@ -57,9 +90,14 @@ tops-spec =
     returns
     enum-told
     returns-2
-    mul-if2
-    mul-t15
+    open-requires
+    enum-known-r
+    enum-told-2
+    tops-empty-requires
+    enum-known-h
+    tops-open-requires
     returns-3
-    put-points-requires
     same-length
-    returns-4)
+    returns-4
+    same-length-2
+    returns-5)

@@ -1,10 +1,6 @@
 -- `roadsurface::tell::tell_mesh` meets its contract, case by case. Assumes nothing.
-use mathlib.Core.Path.{refl}
-use native.Mathlib.Omega.{arith}
-use lib.ListN.{length-set}
 use Rattle.shape.specs.SurfaceMesh.{readMesh}
-use Rattle.roadsurface.specs.Answers.{meshWords}
-use Rattle.roadsurface.proofs.Telling.{told-refused, told-taken}
+use Rattle.roadsurface.specs.Answers.{codeOf, leftIn}
 use borrow.Author.Needs.{needs}
 use Rattle.roadsurface.proofs.tell.tell_mesh.Statement.{statement}
 use Rattle.roadsurface.proofs.tell.tell_mesh.Tie as tie
@@ -12,17 +8,17 @@ use Rattle.roadsurface.proofs.tell.tell_mesh.Tie as tie
 enum-known-a : tie.Need-enum-known-a
 enum-known-a c = search needs
 
-slice-write-answer : tie.Need-slice-write-answer
-slice-write-answer c = search needs
+word-requires : tie.Need-word-requires
+word-requires c κs = search needs
 
-slice-write-answer-2 : tie.Need-slice-write-answer-2
-slice-write-answer-2 c = simp length-set (omega (arith, c .before .before .before .before .pre))
+word-requires-2 : tie.Need-word-requires-2
+word-requires-2 c κs = search needs
 
-slice-write-answer-3 : tie.Need-slice-write-answer-3
-slice-write-answer-3 c = simp length-set (omega (arith, c .before .before .before .before .pre))
+word-requires-3 : tie.Need-word-requires-3
+word-requires-3 c κs = search needs
 
-slice-write-answer-4 : tie.Need-slice-write-answer-4
-slice-write-answer-4 c = simp length-set (omega (arith, c .before .before .before .before .pre))
+count-requires : tie.Need-count-requires
+count-requires c κs = search needs
 
 enum-known-a-2 : tie.Need-enum-known-a-2
 enum-known-a-2 c = search needs
@@ -30,28 +26,31 @@ enum-known-a-2 c = search needs
 code-requires : tie.Need-code-requires
 code-requires c κs = search needs
 
-same-length : tie.Need-same-length
-same-length c = search needs
-
 returns : tie.Need-returns
-unfolding readMesh meshWords
-returns c = rw (c .before .a .given .1) (told-taken meshWords _ _ _ (omega (arith, c .before .before .before .before .pre)) refl)
+unfolding readMesh codeOf leftIn
+returns c =
+    let e = c .before .before .before .before .before .a .given .1 in (
+      rw e (c .count .ensures),
+      (
+        rw e (c .before .before .before .word .ensures),
+        (rw e (c .before .before .word2 .ensures), rw e (c .before .word3 .ensures)),
+      ),
+    )
 
 returns-2 : tie.Need-returns-2
-unfolding readMesh meshWords
-returns-2 c = rw (c .before .before .a2 .given .1) (told-refused meshWords _ (c .code .ensures))
+unfolding readMesh codeOf leftIn
+returns-2 c = let e = c .before .before .a2 .given .1 in (rw e (c .code .ensures), (rw e, (rw e, rw e)))
 
 pub tell-mesh-spec : {M : Type 1} → statement M
 tell-mesh-spec =
     tie.close
     (tie.spec
     enum-known-a
-    slice-write-answer
-    slice-write-answer-2
-    slice-write-answer-3
-    slice-write-answer-4
+    word-requires
+    word-requires-2
+    word-requires-3
+    count-requires
     enum-known-a-2
     code-requires
-    same-length
     returns
     returns-2)

@@ -1,10 +1,6 @@
 -- `roadsurface::tell::tell_sampling` meets its contract, case by case. Assumes nothing.
-use mathlib.Core.Path.{refl}
-use native.Mathlib.Omega.{arith}
-use lib.ListN.{length-set}
 use Rattle.lookup.specs.Batch.{readSampling}
-use Rattle.roadsurface.specs.Answers.{countWords}
-use Rattle.roadsurface.proofs.Telling.{told-refused, told-taken}
+use Rattle.roadsurface.specs.Answers.{codeOf}
 use borrow.Author.Needs.{needs}
 use Rattle.roadsurface.proofs.tell.tell_sampling.Statement.{statement}
 use Rattle.roadsurface.proofs.tell.tell_sampling.Tie as tie
@@ -12,8 +8,8 @@ use Rattle.roadsurface.proofs.tell.tell_sampling.Tie as tie
 enum-known-a : tie.Need-enum-known-a
 enum-known-a c = search needs
 
-slice-write-answer : tie.Need-slice-write-answer
-slice-write-answer c = search needs
+count-requires : tie.Need-count-requires
+count-requires c κs = search needs
 
 enum-known-a-2 : tie.Need-enum-known-a-2
 enum-known-a-2 c = search needs
@@ -21,25 +17,14 @@ enum-known-a-2 c = search needs
 code-requires : tie.Need-code-requires
 code-requires c κs = search needs
 
-same-length : tie.Need-same-length
-same-length c = search needs
-
 returns : tie.Need-returns
-unfolding readSampling
-returns c = rw (c .before .a .given .1) (told-taken countWords _ _ _ (omega (arith, c .before .before .before .before .pre)) refl)
+unfolding readSampling codeOf
+returns c = rw (c .before .before .a .given .1) (c .count .ensures)
 
 returns-2 : tie.Need-returns-2
-unfolding readSampling
-returns-2 c = rw (c .before .before .a2 .given .1) (told-refused countWords _ (c .code .ensures))
+unfolding readSampling codeOf
+returns-2 c = rw (c .before .before .a2 .given .1) (c .code .ensures)
 
 pub tell-sampling-spec : {M : Type 1} → statement M
 tell-sampling-spec =
-    tie.close
-    (tie.spec
-    enum-known-a
-    slice-write-answer
-    enum-known-a-2
-    code-requires
-    same-length
-    returns
-    returns-2)
+    tie.close (tie.spec enum-known-a count-requires enum-known-a-2 code-requires returns returns-2)

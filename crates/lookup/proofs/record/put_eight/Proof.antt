@@ -1,11 +1,11 @@
--- `lookup::sampler::put_eight` meets its contract. Assumes nothing.
+-- `lookup::record::put_eight` meets its contract. Assumes nothing.
 use mathlib.Core.Path.{refl}
 use native.Mathlib.Numerals.{towards-suc}
 use native.Mathlib.Omega.{arith}
 use lib.ListN.{length-set}
 use borrow.Author.Needs.{needs}
-use Rattle.lookup.proofs.sampler.put_eight.Statement.{statement}
-use Rattle.lookup.proofs.sampler.put_eight.Tie as tie
+use Rattle.lookup.proofs.record.put_eight.Statement.{statement}
+use Rattle.lookup.proofs.record.put_eight.Tie as tie
 
 mul-out : tie.Need-mul-out
 mul-out c = search needs
