@@ -11,7 +11,7 @@ number-requires c κs = search needs
 returns : tie.Need-returns
 returns c = search needs
 
-array-borrow-prefix-records : tie.Need-array-borrow-prefix-index
+array-borrow-prefix-records : tie.Need-array-borrow-prefix-records
 array-borrow-prefix-records c = search needs
 
 slice-aggregate-records-into : tie.Need-slice-aggregate-records-into
