@@ -90,7 +90,7 @@ module _ (f : ℤ → Float → Spot) (i : ℤ) (part : Float) where
 
   pub tried-second : {r : Spot} → eq part 0d ≡ true → f i 0d ≡ Missing → r ≡ f (predℤ i) 1d → r ≡ triedAt f i part
   unfolding triedAt orElse
-  tried-second e g k = rw (e, g) k
+  tried-second {r} e g k = rw (e, g) k
 
   pub tried-between : {r : Spot} → eq part 0d ≡ false → r ≡ f i part → r ≡ triedAt f i part
   unfolding triedAt
