@@ -1,19 +1,16 @@
--- What is told of one point that the call for many was asked: its record, or why it is refused. Assumes nothing.
-use Prim.Native.Nat.{ℕ, zero, suc, _+_, _*_, _<_}
+-- What is told of one point: its record, or why it is refused. Assumes nothing.
+use Prim.Native.Nat.{ℕ, zero, suc, _+_, _<_}
 use mathlib.Core.Path.{_≡_, refl, sym, ap, subst, _∙_}
 use mathlib.Core.List.{List, [], _∷_, _++_, append-nil}
 use native.Mathlib.Nat.{not-suc-le-zero, le-of-suc-le-suc}
 use native.Mathlib.Numerals.{add-one}
 use native.Mathlib.Omega.{arith}
-use lib.Ieee.{Float}
 use lib.ListN.{length, take, drop, set, getD, replicate}
 use lib.Seq.{take-all}
-use borrow.Author.Tests.{lt-ltb}
-use Rattle.shape.specs.Lists.{Mesh}
-use Rattle.shape.specs.Refusal.{Fault, fine, fault, Answer, taken, refused, judge, leaves}
-use Rattle.lookup.specs.Sampler.{Sample, hit, miss, topFault, topOf}
-use Rattle.lookup.specs.Batch.{recordOf, recordsOf, topsOf, wordFor}
-use Rattle.lookup.specs.Laws.Batch.{one-taken, one-record}
+use Rattle.shape.specs.Refusal.{refuse, Answer, taken, refused, judge, leaves}
+use Rattle.lookup.specs.Sampler.{Sample, hit, miss}
+use Rattle.lookup.specs.Batch.{recordOf}
+use Rattle.lookup.specs.Record.{roomFor, recordAnswer}
 use Rattle.roadsurface.specs.Answers.{codeFor, codeOf, wordsAfter, Told, sampleWords}
 use Rattle.roadsurface.proofs.Telling.{told-refused}
 
@@ -40,37 +37,24 @@ record-length (taken (hit h n t l)) = refl
 record-length (taken miss) = refl
 record-length (refused k p) = refl
 
--- of a record that begins with 2, the number and the place are the code
-pub record-refused : (a : Answer Sample) (ws : List ℕ) → ws ≡ recordOf a → getD ws 0 0 ≡ 2 → getD ws 2 0 < 4294967296 → (words : List ℕ) {code : ℕ}
-    → code ≡ getD ws 1 0 * 4294967296 + getD ws 2 0 → Told a sampleWords words words code
-unfolding recordOf codeFor wordFor
-record-refused (taken (hit z n t l)) ws e f g words h = absurd (let q : _≡_ {A = ℕ} 1 2 = rw e at f in omega arith)
-record-refused (taken miss) ws e f g words h = absurd (let q : _≡_ {A = ℕ} 0 2 = rw e at f in omega arith)
-record-refused (refused k p) ws e f g words h = told-refused sampleWords words (let l : p < 4294967296 = rw e at g in rw (lt-ltb p 4294967296 l, h, e))
+-- of an answer to one point with room for its record, what is told
+module _ (words : List ℕ) where
+  pub one-refused : (s : Answer Sample) {k p : ℕ} → refused k p ≡ recordAnswer s 8 → {code : ℕ} → code ≡ codeFor k p → Told s sampleWords words words code
+  unfolding recordAnswer roomFor judge refuse
+  one-refused (taken (hit z n t l)) e h = absurd (let z : _≡_ {A = ℕ} 0 1 = cc in omega arith)
+  one-refused (taken miss) e h = absurd (let z : _≡_ {A = ℕ} 0 1 = cc in omega arith)
+  one-refused (refused i q) {k} {p} e h = told-refused sampleWords words (let b : k ≡ i = cc in let c : p ≡ q = cc in rw (← b, ← c) h)
 
--- of any other, the record is the answer
-pub record-taken : (a : Answer Sample) (ws : List ℕ) → ws ≡ recordOf a → (getD ws 0 0 ≡ 2 → ⊥) → (words : List ℕ) {after : List ℕ}
-    → after ≡ ws ++ drop 8 words → Told a sampleWords words after 0
-unfolding codeOf wordsAfter sampleWords recordOf
-record-taken (taken s) ws e n words h = record { returned = refl; answer = rw (record-length (taken s), ← e) h }
-record-taken (refused k p) ws e n words h = absurd (n (rw e))
+  record-taken : (s : Sample) {ws after : List ℕ} → ws ≡ recordOf (taken s) ++ drop (length (recordOf (taken s))) (replicate 8 0) → after ≡ ws ++ drop 8 words
+      → Told (taken s) sampleWords words after 0
+  unfolding codeOf wordsAfter sampleWords
+  record-taken s e h =
+      let f = e ∙ rw (record-length (taken s)) (append-nil (recordOf (taken s))) in
+      record { returned = refl; answer = rw (record-length (taken s), ← f) h }
 
--- ---- one point, asked with room for its record
-
-module _ (m : Mesh) (ws : List ℕ) (x y : Float) where
-  -- refused there, refused here
-  pub one-refused : {k p : ℕ} → refused k p ≡ topsOf m ws (x ∷ y ∷ []) 8 → (words : List ℕ) {code : ℕ} → code ≡ codeFor k p
-      → Told (topOf m ws x y) sampleWords words words code
-  unfolding topOf judge
-  one-refused e words h = go (topFault m ws) _ (e ∙ one-taken m ws x y) words h
-    where
-      go : (f : Fault) (a : Answer Sample) {k p : ℕ} → _≡_ {A = Answer ℕ} (refused k p) (judge f (taken 1)) → (words : List ℕ) {code : ℕ} → code ≡ codeFor k p
-          → Told (judge f a) sampleWords words words code
-      go fine a e words h = absurd (let z : _≡_ {A = ℕ} 0 1 = cc in omega arith)
-      go (fault i q) a {k} {p} e words h = told-refused sampleWords words (let b : k ≡ i = cc in let c : p ≡ q = cc in rw (← b, ← c) h)
-
-  -- taken, its record is left
-  pub one-left : {n : ℕ} {words : List ℕ} → taken n ≡ topsOf m ws (x ∷ y ∷ []) 8
-      → words ≡ leaves (topsOf m ws (x ∷ y ∷ []) 8) (recordsOf m ws (x ∷ y ∷ [])) (replicate 8 0) → words ≡ recordOf (topOf m ws x y)
-  unfolding leaves
-  one-left e h = h ∙ rw (← e, one-record m ws x y, record-length (topOf m ws x y)) (append-nil (recordOf (topOf m ws x y)))
+  pub one-left : (s : Answer Sample) {n : ℕ} {ws after : List ℕ} → taken n ≡ recordAnswer s 8 → ws ≡ leaves (recordAnswer s 8) (recordOf s) (replicate 8 0)
+      → after ≡ ws ++ drop 8 words → Told s sampleWords words after 0
+  unfolding recordAnswer roomFor judge refuse leaves
+  one-left (taken (hit z n t l)) e f h = record-taken (hit z n t l) f h
+  one-left (taken miss) e f h = record-taken miss f h
+  one-left (refused i q) e f h = absurd (let z : _≡_ {A = ℕ} 0 1 = cc in omega arith)

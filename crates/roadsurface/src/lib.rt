@@ -32,6 +32,7 @@ use crate::tell::tell_sampling;
 use crate::tell::tell_verdict;
 use lookup::grid::build;
 use lookup::mesh::height_at;
+use lookup::record::top_record;
 use lookup::sampler::tops;
 use shape::ears::ear_clip;
 use shape::elevation;
@@ -290,17 +291,8 @@ pub extern "C" fn rs_top(
     if answer.len() < 8 {
         return short(8);
     }
-    let points = [x, y];
     let mut words = [0u32; 8];
-    let a = tops(
-        vertices,
-        normals,
-        indices,
-        spans,
-        index,
-        &points,
-        &mut words,
-    );
+    let a = top_record(vertices, normals, indices, spans, index, x, y, &mut words);
     tell_record(answer, a, &words)
 }
 

@@ -16,7 +16,8 @@ ghost use Rattle.shape.specs.Verdict.{readVerdict};
 ghost use Rattle.lookup.specs.Plain.{readAnswer};
 ghost use Rattle.lookup.specs.Index.{readBuilt};
 ghost use Rattle.lookup.specs.Sampler.{topOf};
-ghost use Rattle.lookup.specs.Batch.{recordOf, recordsOf, topsOf, readSampling};
+ghost use Rattle.lookup.specs.Batch.{recordOf, readSampling};
+ghost use Rattle.lookup.specs.Record.{recordAnswer};
 ghost use Rattle.surface.specs.File.{readCopied};
 ghost use Rattle.roadsurface.specs.Answers.{codeFor, Told, bitOf, spotWords, outlineWords, countWords, meshWords, lookupWords, sampleWords, verdictWords};
 use lookup::grid::Built;
@@ -201,26 +202,17 @@ fn put_record(answer: &mut [u64], words: &[u32])
     }
 }
 
-// The record of a point, word by word, or why its cell is refused.
-fn tell_words(answer: &mut [u64], words: &[u32]) -> u64
-    requires { ⌜ (8 ≤ length (now answer)) × (length (now words) ≡ 8) ⌝ }
-    ensures { λ r. ⌜ ((m : Mesh) (ws : List ℕ) (x y : Float) → now (words .entry) ≡ recordOf (topOf m ws x y) → Told (topOf m ws x y) sampleWords (now (answer .entry)) (now (answer .exit)) r) ⌝ }
-{
-    if words[0] == 2 {
-        return wide(words[1]) * 0x1_0000_0000 + wide(words[2]);
-    }
-    put_record(answer, words);
-    0
-}
-
-// One point that the call for many was asked: `a` is its answer, and `words` held zeros.
+// The record of one point: `a` is the lookup's answer, and `words` held zeros.
 pub fn tell_record(answer: &mut [u64], a: Sampling, words: &[u32]) -> u64
     requires { ⌜ (8 ≤ length (now answer)) × (length (now words) ≡ 8) ⌝ }
-    ensures { λ r. ⌜ ((m : Mesh) (ws : List ℕ) (x y : Float) → readSampling a ≡ topsOf m ws (x ∷ y ∷ []) 8 → now (words .entry) ≡ leaves (topsOf m ws (x ∷ y ∷ []) 8) (recordsOf m ws (x ∷ y ∷ [])) (replicate 8 0) → Told (topOf m ws x y) sampleWords (now (answer .entry)) (now (answer .exit)) r) ⌝ }
+    ensures { λ r. ⌜ ((m : Mesh) (ws : List ℕ) (x y : Float) → readSampling a ≡ recordAnswer (topOf m ws x y) 8 → now (words .entry) ≡ leaves (recordAnswer (topOf m ws x y) 8) (recordOf (topOf m ws x y)) (replicate 8 0) → Told (topOf m ws x y) sampleWords (now (answer .entry)) (now (answer .exit)) r) ⌝ }
 {
     match a {
         Sampling::Refused(r) => code(r),
-        Sampling::Count(n) => tell_words(answer, words),
+        Sampling::Count(n) => {
+            put_record(answer, words);
+            0
+        }
     }
 }
 

@@ -12,14 +12,11 @@ short-requires c κs = search needs
 returns : tie.Need-returns
 returns c = told-short sampleWords 8 _ _ (c .before .if1 .taken) (c .short .ensures)
 
-slice-aggregate-tops : tie.Need-slice-aggregate-tops
-slice-aggregate-tops c = search needs
+slice-aggregate-top-record : tie.Need-slice-aggregate-top-record
+slice-aggregate-top-record c = search needs
 
-slice-aggregate-tops-2 : tie.Need-slice-aggregate-tops-2
-slice-aggregate-tops-2 c = search needs
-
-tops-requires : tie.Need-tops-requires
-tops-requires c κs = search needs
+top-record-requires : tie.Need-top-record-requires
+top-record-requires c κs = search needs
 
 slice-aggregate-tell-record : tie.Need-slice-aggregate-tell-record
 slice-aggregate-tell-record c = search needs
@@ -31,7 +28,9 @@ same-length : tie.Need-same-length
 same-length c = search needs
 
 returns-2 : tie.Need-returns-2
-returns-2 c = told-lent sampleWords 8 _ _ (c .before .before .before .before .before .before .before .before .before .if1 .left) refl (c .before .before .tell-record .ensures _ _ _ _ (c .before .before .before .before .before .before .tops .ensures .0) (c .before .before .before .before .before .before .tops .ensures .1))
+returns-2 c =
+    let t = c .before .before .before .before .before .before in
+    told-lent sampleWords 8 _ _ (t .before .before .if1 .left) refl (c .before .before .tell-record .ensures _ _ _ _ (t .top-record .ensures .0) (t .top-record .ensures .1))
 
 pub rs-top-spec : {M : Type 1} → statement M
 rs-top-spec =
@@ -39,9 +38,8 @@ rs-top-spec =
     (tie.spec
     short-requires
     returns
-    slice-aggregate-tops
-    slice-aggregate-tops-2
-    tops-requires
+    slice-aggregate-top-record
+    top-record-requires
     slice-aggregate-tell-record
     tell-record-requires
     same-length

@@ -14,19 +14,19 @@ code-requires c κs = search needs
 enum-known-a-2 : tie.Need-enum-known-a-2
 enum-known-a-2 c = search needs
 
-tell-words-requires : tie.Need-tell-words-requires
-tell-words-requires c κs = search needs
+put-record-requires : tie.Need-put-record-requires
+put-record-requires c κs = search needs
 
 returns : tie.Need-returns
 unfolding readSampling
-returns c m ws x y e h = one-refused m ws x y (rw (c .before .before .a .given .1) at e) _ (c .code .ensures)
+returns c m ws x y e h = one-refused _ _ (rw (c .before .before .a .given .1) at e) (c .code .ensures)
 
 same-length : tie.Need-same-length
 same-length c = search needs
 
 returns-2 : tie.Need-returns-2
 unfolding readSampling
-returns-2 c m ws x y e h = c .before .before .tell-words .ensures m ws x y (one-left m ws x y (rw (c .before .before .before .before .before .a2 .given .1) at e) h)
+returns-2 c m ws x y e h = one-left _ _ (rw (c .before .before .before .before .before .a2 .given .1) at e) h (c .before .before .put-record .ensures)
 
 pub tell-record-spec : {M : Type 1} → statement M
 tell-record-spec =
@@ -35,7 +35,7 @@ tell-record-spec =
     enum-known-a
     code-requires
     enum-known-a-2
-    tell-words-requires
+    put-record-requires
     returns
     same-length
     returns-2)
