@@ -14,16 +14,10 @@ use Rattle.shape.specs.Laws.Gather.{gather-even}
 use Rattle.shape.specs.Laws.Memory.{sets-front}
 use Rattle.lookup.specs.Mesh.{triangles}
 use Rattle.lookup.specs.Consult.{headFault}
-use Rattle.lookup.specs.Sampler.{Sample, hit, miss, topFault, topOf}
+use Rattle.lookup.specs.Sampler.{Sample, topFault, topOf}
 use Rattle.lookup.specs.Batch.{recordOf, recordAt, recordsOf, pointsIn, countAnswer, topsOf}
 use Rattle.lookup.specs.Record.{roomFor}
-
--- a record has eight words
-pub record-eight : (a : Answer Sample) → length (recordOf a) ≡ 8
-unfolding recordOf
-record-eight (taken (hit h n t l)) = refl
-record-eight (taken miss) = refl
-record-eight (refused number place) = refl
+use Rattle.lookup.specs.Laws.Batch.{record-eight}
 
 pub record-next : (a : Answer Sample) {old now : List ℕ} {at next : ℕ} → Put old now at (recordOf a) next → next ≡ at + 8
 record-next a p = p .ends ∙ ap (_+_ _) (record-eight a)

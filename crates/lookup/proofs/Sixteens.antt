@@ -1,5 +1,5 @@
 -- The steps by which `highest_in` goes through a run, sixteen triangles at a time, and what `locate` says of it. Assumes nothing.
-use mathlib.Core.Path.{_≡_, sym, ap, _∙_, subst}
+use mathlib.Core.Path.{_≡_, refl, sym, ap, _∙_, subst}
 use mathlib.Core.Logic.{_⊎_, ⊎-elim}
 use mathlib.Core.Bool.{Bool, true, false, _&&_}
 use mathlib.Core.List.{List}
@@ -25,11 +25,11 @@ use Rattle.lookup.specs.declared.mesh.Best.the-variants.{At, Nothing}
 use Rattle.lookup.specs.declared.mesh.Weights.{Weights}
 use Rattle.lookup.specs.declared.mesh.Peak.{Peak}
 use Rattle.lookup.specs.Mesh.{present, cornersOf, triangles}
-use Rattle.lookup.specs.Cover.{slack, covers, heightOf, weightsOf, weightsAt, detOf, overA, weightA, weightB, insideOf, liftOf}
-use Rattle.lookup.specs.Plain.{scanOf, higherOf, entryOf}
+use Rattle.lookup.specs.Cover.{slack, covers, weightsOf, weightsAt, detOf, overA, weightA, weightB, insideOf}
+use Rattle.lookup.specs.Plain.{scanOf, entryOf}
 use Rattle.lookup.specs.Consult.{entryFault, wordAt, Place, nowhere}
 use Rattle.lookup.specs.Steps.{Runs, Started}
-use Rattle.lookup.specs.Sixteen.{turnOf, groundAt, Over, Grounded, Held, AllHeld, Low, AllLow, Weighed, Weighs, Poised, HitOf}
+use Rattle.lookup.specs.Sixteen.{groundAt, Over, Grounded, Held, There, AllHeld, Exactly, Gathered, Low, AllLow, Weighed, Weighs, Poised, HitOf}
 use Rattle.lookup.specs.Laws.Heads.{entry-none, entry-step}
 use Rattle.lookup.specs.Laws.Plain.{present-below}
 use Rattle.lookup.specs.Laws.Parts.{both}
@@ -38,6 +38,37 @@ use Rattle.lookup.proofs.Turns.{there, missing, weights-are}
 -- what holds of each number below n, and of n, holds of each below suc n
 upto : (P : ℕ → Type 0) (n : ℕ) → ((j : ℕ) → j < n → P j) → P n → (j : ℕ) → j < suc n → P j
 upto P n f p j h = ⊎-elim (λ (z : j ≡ n). subst P (sym z) p) (λ (z : j < n). f j z) (eq-or-lt-of-le (le-of-suc-le-suc h))
+
+true-not-false : true ≡ false → ⊥
+true-not-false e = T-of (sym e)
+
+-- ---- a flag that is told both ways
+
+module _ (P : ℕ → Type 0) where
+  pub exactly-none : Exactly P 0 true
+  exactly-none = record { all = λ _ k l. absurd (omega arith); told = λ _. refl }
+
+  exactly-more : (k : ℕ) {b : Bool} → Exactly P k b → P k → Exactly P (k + 1) b
+  exactly-more k {b} f p =
+      subst (λ (n : ℕ). Exactly P n b) (sym (add-one k)) (record { all = λ e. upto P k (f .all e) p; told = λ g. f .told (λ j l. g j (omega arith)) })
+
+  exactly-not : (k : ℕ) → (P k → ⊥) → Exactly P (k + 1) false
+  exactly-not k n = record { all = λ e. absurd (true-not-false (sym e)); told = λ g. absurd (n (g k (omega arith))) }
+
+  -- the first i, and n more
+  exactly-both : (i n : ℕ) {b c d : Bool} → Exactly P i b → Exactly (λ k. P (i + k)) n c → d ≡ (b && c) → Exactly P (i + n) d
+  exactly-both i n {b} {c} f g e =
+      record {
+        all = λ z k l. let t = both b c (sym e ∙ z) in go (t .0) (t .1) k l (decLt k i);
+        told = λ h. rw (e, f .told (λ k l. h k (omega arith)), g .told (λ k l. h (i + k) (omega arith)));
+      }
+    where
+      go : b ≡ true → c ≡ true → (k : ℕ) → k < i + n → Dec (k < i) → P k
+      go p q k l (yes m) = f .all p k m
+      go p q k l (no m) =
+          let z : i + (k - i) ≡ k = omega arith in
+          let v : k - i < n = omega arith in
+          subst P z (g .all q (k - i) v)
 
 -- ---- corners on the ground
 
@@ -70,19 +101,36 @@ module _ (vs : List Float) (is : List ℕ) where
       let w = there vs is t e in
       record { there = w .0; first = subst (Over _) (w .1) f; second = subst (Over _) (w .2) g; third = subst (Over _) (w .3) h }
 
-  pub gather-step : (run : List ℕ) (from k : ℕ) {a b c a′ b′ c′ : List Float} {p q r : Point} {t : ℕ}
-      → AllHeld vs is run from k a b c
+  -- a place more is filled, or passed over as its triangle is missing
+  pub gather-step : (run : List ℕ) (from k : ℕ) {a b c a′ b′ c′ : List Float} {p q r : Point} {t : ℕ} {whole : Bool}
+      → Gathered vs is run from k a b c whole
       → t ≡ entryOf run (from + k)
       → Corners p q r ≡ cornersOf vs is t
       → Grounded a a′ k p
       → Grounded b b′ k q
       → Grounded c c′ k r
-      → AllHeld vs is run from (k + 1) a′ b′ c′
-  gather-step run from k {a} {b} {c} {a′} {b′} {c′} old same e f g h =
-      subst (λ (n : ℕ). AllHeld vs is run from n a′ b′ c′) (sym (add-one k))
-      (upto (λ j. Held vs is (entryOf run (from + j)) (groundAt a′ j) (groundAt b′ j) (groundAt c′ j)) k
-      (λ j l. rw (f .kept j l, g .kept j l, h .kept j l) (old j l))
-      (subst (λ (t : ℕ). Held vs is t (groundAt a′ k) (groundAt b′ k) (groundAt c′ k)) same (fetched _ e (f .put) (g .put) (h .put))))
+      → Gathered vs is run from (k + 1) a′ b′ c′ whole
+  gather-step run from k {a} {b} {c} {a′} {b′} {c′} {t = t} old same e f g h =
+      record {
+        held =
+            subst (λ (n : ℕ). AllHeld vs is run from n a′ b′ c′) (sym (add-one k))
+            (upto (λ j. There vs is run (from + j) → Held vs is (entryOf run (from + j)) (groundAt a′ j) (groundAt b′ j) (groundAt c′ j)) k
+            (λ j l p. rw (f .kept j l, g .kept j l, h .kept j l) (old .held j l p))
+            (λ _. subst (λ (t : ℕ). Held vs is t (groundAt a′ k) (groundAt b′ k) (groundAt c′ k)) same (fetched _ e (f .put) (g .put) (h .put))));
+        flag = exactly-more (λ j. There vs is run (from + j)) k (old .flag) (subst (λ (t : ℕ). present vs is t ≡ true) same (there vs is t e .0));
+      }
+
+  pub gather-pass : (run : List ℕ) (from k : ℕ) {a b c : List Float} {t : ℕ} {whole : Bool}
+      → Gathered vs is run from k a b c whole → t ≡ entryOf run (from + k) → Missing ≡ cornersOf vs is t → Gathered vs is run from (k + 1) a b c false
+  gather-pass run from k {a} {b} {c} {t = t} old same e =
+      let none : There vs is run (from + k) → ⊥ = λ p. true-not-false (sym p ∙ subst (λ (t : ℕ). present vs is t ≡ false) same (missing vs is t e)) in
+      record {
+        held =
+            subst (λ (n : ℕ). AllHeld vs is run from n a b c) (sym (add-one k))
+            (upto (λ j. There vs is run (from + j) → Held vs is (entryOf run (from + j)) (groundAt a j) (groundAt b j) (groundAt c j)) k (old .held)
+            (λ p. absurd (none p)));
+        flag = exactly-not (λ j. There vs is run (from + j)) k none;
+      }
 
 -- ---- least weights
 
@@ -95,44 +143,19 @@ low-step P low k v room old new =
     (λ j l w. old j l (subst (λ (z : Float). lt z slack ≡ true) (getD-set-other low k j v nan (λ q. omega arith)) w))
     (λ w. new (subst (λ (z : Float). lt z slack ≡ true) (getD-set-same low k v nan room) w))
 
-pub weighed : (vs : List Float) (is : List ℕ) (x y : Float) (run : List ℕ) (from n m : ℕ) (a b c low : List Float)
-    → n ≤ m → AllHeld vs is run from n a b c → AllLow a b c x y low m → Weighed vs is x y run from n low true
-weighed vs is x y run from n m a b c low le held lows =
-    record {
-      passing = λ k l w. held-out vs is x y (held k l) (lows k (omega arith) w);
-      there = λ _ k l. held k l .there;
-    }
+missing-out : (vs : List Float) (is : List ℕ) (t : ℕ) (x y : Float) → present vs is t ≡ false → covers vs is t x y ≡ false
+unfolding covers
+missing-out vs is t x y e = rw e
 
-pub unweighed : (vs : List Float) (is : List ℕ) (x y : Float) (run : List ℕ) (from n : ℕ) (low : List Float)
-    → ((k : ℕ) → k < n → Low low k → ⊥) → Weighed vs is x y run from n low false
-unweighed vs is x y run from n low none =
-    record {
-      passing = λ k l w. absurd (none k l w);
-      there = λ e. absurd (differ e);
-    }
+pub weighed : (vs : List Float) (is : List ℕ) (x y : Float) (run : List ℕ) (from n m : ℕ) (a b c low : List Float) (whole : Bool)
+    → n ≤ m → Gathered vs is run from n a b c whole → AllLow a b c x y low m → Weighed vs is x y run from n low whole
+weighed vs is x y run from n m a b c low whole le g lows =
+    record { passing = λ k l w. go k l (present vs is (entryOf run (from + k))) refl (lows k (omega arith) w); flag = g .flag }
   where
-    differ : false ≡ true → ⊥
-    differ e = T-of e
-
--- ---- a turn
-
-module _ (vs : List Float) (is : List ℕ) (x y : Float) (best : Best) (t : ℕ) where
-  pub turn-missing : Missing ≡ cornersOf vs is t → best ≡ turnOf vs is x y best t
-  unfolding turnOf covers
-  turn-missing f = rw (missing vs is t f)
-
-  module _ {a b c : Point} (f : Corners a b c ≡ cornersOf vs is t) where
-    pub turn-out : insideOf (weightsOf a b c x y) ≡ false → best ≡ turnOf vs is x y best t
-    unfolding turnOf covers
-    turn-out o = rw (there vs is t f .0, ← weights-are vs is t x y f, o)
-
-    pub turn-in : insideOf (weightsOf a b c x y) ≡ true → higherOf best (liftOf (weightsOf a b c x y) (a .z) (b .z) (c .z)) t ≡ turnOf vs is x y best t
-    unfolding turnOf covers heightOf
-    turn-in o = let k = there vs is t f in rw (k .0, ← weights-are vs is t x y f, o, ← k .1, ← k .2, ← k .3)
-
-  pub turn-next : (seq : ℕ → ℕ) (i j : ℕ) → best ≡ scanOf vs is x y seq i → t ≡ seq i → j ≡ suc i → turnOf vs is x y best t ≡ scanOf vs is x y seq j
-  unfolding turnOf scanOf
-  turn-next seq i j e s n = rw (n, ← s, e)
+    go : (k : ℕ) → k < n → (p : Bool) → present vs is (entryOf run (from + k)) ≡ p → insideOf (weightsOf (groundAt a k) (groundAt b k) (groundAt c k) x y) ≡ false
+        → covers vs is (entryOf run (from + k)) x y ≡ false
+    go k l true e o = held-out vs is x y (g .held k l e) o
+    go k l false e o = missing-out vs is (entryOf run (from + k)) x y e
 
 -- ---- the weights of the best
 
@@ -165,21 +188,7 @@ pub hit-step : (vs : List Float) (is : List ℕ) (x y : Float) (run : List ℕ) 
     → all ≡ (whole && part)
     → next ≡ scanOf vs is x y (entryOf run) (i + n)
     → HitOf vs is x y run (i + n) next all
-hit-step vs is x y run i n {whole = whole} {part = part} h w e s =
-    record {
-      found = s;
-      there =
-          λ z k l.
-          let b = both whole part (sym e ∙ z) in
-          go (b .0) (b .1) k l (decLt k i);
-    }
-  where
-    go : whole ≡ true → part ≡ true → (k : ℕ) → k < i + n → Dec (k < i) → present vs is (entryOf run k) ≡ true
-    go p q k l (yes m) = h .there p k m
-    go p q k l (no m) =
-        let z : i + (k - i) ≡ k = omega arith in
-        let v : k - i < n = omega arith in
-        subst (λ (j : ℕ). present vs is (entryOf run j) ≡ true) z (w .there q (k - i) v)
+hit-step vs is x y run i n h w e s = record { found = s; flag = exactly-both (There vs is run) i n (h .flag) (w .flag) e }
 
 -- ---- the entries of a run of triangles that are there are in order
 

@@ -1,13 +1,14 @@
--- Small cases of the indexed lookup, computed: document 01's case of a point past the rim, which the plain lookup answers and the indexed one does not, and
--- the lanes of triangles. Assumes nothing.
+-- Small cases of the indexed lookup, computed: document 01's case of a point past the rim, which the plain lookup answers and the indexed one does not, the
+-- lanes of triangles, and the order in which a call for many points is judged. Assumes nothing.
 use mathlib.Core.Path.{_≡_, refl, ap, _∙_}
 use mathlib.Core.List.{List, [], _∷_}
 use Prim.Native.Nat.{ℕ, _≤_}
 use lib.ListN.{length}
 use lib.Ieee.{Float, add, sub, mul, div, lt, le, eq, neg, ofBits}
 use Rattle.rounding.specs.Extremes.{minOf, maxOf, absOf}
-use Rattle.shape.specs.Refusal.{taken}
-use Rattle.shape.specs.Lists.{Mesh, meshLists, pointAt, wordOf}
+use Rattle.shape.specs.Gather.{any}
+use Rattle.shape.specs.Refusal.{taken, refused, refuse, judge}
+use Rattle.shape.specs.Lists.{Mesh, meshLists, pointAt, wordOf, longer, uneven, runBad}
 use Rattle.vector.specs.Single.{single, 0f, 1f}
 use Rattle.lookup.specs.declared.sampler.Lane.the-variants.{Id, None}
 use Rattle.lookup.specs.Mesh.{present, cornersOf}
@@ -17,7 +18,9 @@ use Rattle.lookup.specs.Winner.{Covers}
 use Rattle.lookup.specs.Box.{aroundOf, slackOf, grownOf, grownBox, boxOf, within}
 use Rattle.lookup.specs.Frame.{joinOf, extentOf}
 use Rattle.lookup.specs.Index.{candidatesOver, candidatesOf}
-use Rattle.lookup.specs.Sampler.{pastOf, laneOf, miss, sampleOf, sampleIn, topOf}
+use Rattle.lookup.specs.Sampler.{meshLimits, meshRagged, topFault, pastOf, laneOf, miss, sampleOf, sampleIn, topOf}
+use Rattle.lookup.specs.Batch.{countAnswer, topsOf}
+use Rattle.lookup.specs.Consult.{headFault, sides, declares}
 use Rattle.lookup.specs.Demand3.{BuiltFrom}
 use Rattle.lookup.specs.Laws.Plain.{answer-none}
 use Rattle.lookup.specs.Laws.Demand3.{top-taken}
@@ -54,3 +57,21 @@ spans = 7 ∷ 0 ∷ 4 ∷ 0 ∷ 6 ∷ 9 ∷ 4 ∷ 4 ∷ 6 ∷ 6 ∷ 4 ∷ 4 ∷ 
 lanes : (laneOf spans 0 ≡ Id 7) × (laneOf spans 1 ≡ Id 7) × (laneOf spans 2 ≡ None) × (laneOf spans 3 ≡ Id 4) × (laneOf spans 4 ≡ None)
 unfolding laneOf pastOf wordOf
 lanes = (refl, refl, refl, refl, refl)
+
+-- ---- many points: what is wrong with the whole call, of a mesh without triangles
+
+abbrev nothing : Mesh
+nothing = meshLists [] [] [] []
+
+-- one point; the index of no triangles, whose nine words declare no cells
+abbrev origin : List Float
+origin = 0f ∷ 0f ∷ []
+
+abbrev empty : List ℕ
+empty = 0 ∷ 0 ∷ 0 ∷ 0 ∷ 0 ∷ 0 ∷ 0 ∷ 0 ∷ 0 ∷ []
+
+-- a foreign index before a short output, with no points too, and after a point without its y
+judged : (topsOf nothing [] origin 7 ≡ refused 4 0) × (topsOf nothing [] [] 0 ≡ refused 4 0) × (topsOf nothing [] (0f ∷ []) 7 ≡ refused 2 5)
+    × (topsOf nothing empty origin 7 ≡ refused 3 8) × (topsOf nothing empty origin 8 ≡ taken 1) × (topsOf nothing empty [] 0 ≡ taken 0)
+unfolding topsOf topFault meshLimits meshRagged longer uneven any runBad headFault sides declares countAnswer refuse judge
+judged = (refl, refl, refl, refl, refl, refl)

@@ -2,9 +2,9 @@
 -- Assumes nothing.
 use mathlib.Core.Path.{_≡_}
 use Prim.Native.Nat.{ℕ, _+_, _*_, _<_}
-use mathlib.Core.Bool.{Bool, true, false, cond}
+use mathlib.Core.Bool.{Bool, true, false}
 use mathlib.Core.List.{List}
-use lib.ListN.{length, getD}
+use lib.ListN.{getD}
 use lib.Ieee.{Float, nan, lt}
 use Rattle.vector.specs.Single.{0f}
 use Rattle.vector.specs.declared.coords.Point.{Point}
@@ -13,12 +13,8 @@ use Rattle.lookup.specs.declared.mesh.Best.the-variants.{At, Nothing}
 use Rattle.lookup.specs.Mesh.{present, cornerOf}
 use Rattle.lookup.specs.declared.mesh.Weights.{Weights}
 use Rattle.lookup.specs.declared.mesh.Peak.{Peak}
-use Rattle.lookup.specs.Cover.{slack, weightsOf, weightsAt, insideOf, covers, heightOf}
-use Rattle.lookup.specs.Plain.{higherOf, scanOf, entryOf}
-
--- the best after triangle t
-unfoldable pub turnOf : List Float → List ℕ → Float → Float → Best → ℕ → Best
-turnOf vs is x y best t = cond (covers vs is t x y) (higherOf best (heightOf vs is t x y) t) best
+use Rattle.lookup.specs.Cover.{slack, weightsOf, weightsAt, insideOf, covers}
+use Rattle.lookup.specs.Plain.{scanOf, entryOf}
 
 -- ---- corners on the ground
 
@@ -43,8 +39,26 @@ pub record Held (vs : List Float) (is : List ℕ) (t : ℕ) (p q r : Point) : Ty
   pub second : Over q (cornerOf vs is t 1)
   pub third : Over r (cornerOf vs is t 2)
 
+-- the triangle that a run names at a place
+abbrev pub There : List Float → List ℕ → List ℕ → ℕ → Type 0
+There vs is run i = present vs is (entryOf run i) ≡ true
+
+-- of n triangles of a run from a place on, each that is there is held; the place of one that is missing holds anything
 abbrev pub AllHeld : List Float → List ℕ → List ℕ → ℕ → ℕ → List Float → List Float → List Float → Type 0
-AllHeld vs is run from n a b c = (k : ℕ) → k < n → Held vs is (entryOf run (from + k)) (groundAt a k) (groundAt b k) (groundAt c k)
+AllHeld vs is run from n a b c = (k : ℕ) → k < n → There vs is run (from + k) → Held vs is (entryOf run (from + k)) (groundAt a k) (groundAt b k) (groundAt c k)
+
+-- b is true exactly where each of the first n has it
+pub record Exactly (P : ℕ → Type 0) (n : ℕ) (b : Bool) : Type 0 where
+  pub all : b ≡ true → (k : ℕ) → k < n → P k
+  pub told : ((k : ℕ) → k < n → P k) → b ≡ true
+
+-- the n triangles of a run from a place on are all there, or not
+abbrev pub Whole : List Float → List ℕ → List ℕ → ℕ → ℕ → Bool → Type 0
+Whole vs is run from n whole = Exactly (λ k. There vs is run (from + k)) n whole
+
+pub record Gathered (vs : List Float) (is run : List ℕ) (from n : ℕ) (a b c : List Float) (whole : Bool) : Type 0 where
+  pub held : AllHeld vs is run from n a b c
+  pub flag : Whole vs is run from n whole
 
 -- ---- least weights
 
@@ -60,17 +74,9 @@ AllLow a b c x y low n = (k : ℕ) → k < n → Low low k → insideOf (weights
 abbrev pub Passing : List Float → List ℕ → Float → Float → List ℕ → ℕ → ℕ → List Float → Type 0
 Passing vs is x y run from n low = (k : ℕ) → k < n → Low low k → covers vs is (entryOf run (from + k)) x y ≡ false
 
--- no number is too low
-abbrev pub NoneLow : List Float → ℕ → Type 0
-NoneLow low n = (k : ℕ) → k < n → Low low k → ⊥
-
--- the triangles of a run from a place on are there
-abbrev pub AllThere : List Float → List ℕ → List ℕ → ℕ → ℕ → Type 0
-AllThere vs is run from n = (k : ℕ) → k < n → present vs is (entryOf run (from + k)) ≡ true
-
 pub record Weighed (vs : List Float) (is : List ℕ) (x y : Float) (run : List ℕ) (from n : ℕ) (low : List Float) (whole : Bool) : Type 0 where
   pub passing : Passing vs is x y run from n low
-  pub there : whole ≡ true → AllThere vs is run from n
+  pub flag : Whole vs is run from n whole
 
 -- triangle t is there, and w are the weights of its corners at the point
 pub record Weighs (vs : List Float) (is : List ℕ) (x y : Float) (t : ℕ) (w : Weights) : Type 0 where
@@ -81,10 +87,10 @@ pub record Weighs (vs : List Float) (is : List ℕ) (x y : Float) (t : ℕ) (w :
 abbrev pub Poised : List Float → List ℕ → Float → Float → Peak → Type 0
 Poised vs is x y p = (h : Float) (t : ℕ) → p .best ≡ At h t → Weighs vs is x y t (p .weights)
 
--- the best of the first n triangles of a run, and whether all of them are there
+-- the best of the first n triangles of a run, and whether each of them is there
 pub record HitOf (vs : List Float) (is : List ℕ) (x y : Float) (run : List ℕ) (n : ℕ) (best : Best) (whole : Bool) : Type 0 where
   pub found : best ≡ scanOf vs is x y (entryOf run) n
-  pub there : whole ≡ true → (k : ℕ) → k < n → present vs is (entryOf run k) ≡ true
+  pub flag : Exactly (There vs is run) n whole
 
 -- the best is one of the triangles that a mesh may have
 unfoldable pub Small : Best → Type 0

@@ -10,7 +10,7 @@ ghost use Rattle.shape.specs.Lists.{pointAt, meshLists};
 ghost use Rattle.lookup.specs.Mesh.{cornersOf, normalAt, triangles};
 ghost use Rattle.lookup.specs.Cover.{slack, detOf, overA, weightA, weightB, weightsOf, insideOf, liftOf, faceUp, smoothOf, blendOf, flatOf, normalOf};
 ghost use Rattle.lookup.specs.Plain.{higherOf, scanOf, entryOf, readAnswer, answerOf};
-ghost use Rattle.lookup.specs.Sixteen.{turnOf, groundAt, Grounded, AllHeld, AllLow, Passing, NoneLow, Weighed, Weighs, Poised, HitOf};
+ghost use Rattle.lookup.specs.Sixteen.{groundAt, Grounded, Gathered, AllLow, Passing, Weighed, Weighs, Poised, HitOf};
 ghost use Rattle.lookup.specs.declared.mesh.Best.the-variants.{At, Nothing};
 use rounding::extremes::abs32;
 use shape::lists::mesh_fault;
@@ -339,7 +339,7 @@ pub(crate) fn normal_by(
 
 // ---- the scan of a run, by sixteens
 
-// The peak of a run, and whether no triangle of it is missing.
+// The peak of a run, and whether each triangle of it is there.
 pub struct Hit {
     pub peak: Peak,
     pub whole: bool,
@@ -365,32 +365,32 @@ fn put_ground(xs: &mut [f32], k: usize, p: Point)
     xs[2 * k + 1] = p.y;
 }
 
-// The corners on the ground of the n triangles that a run names from `from` on. No where one is missing.
+// The corners on the ground of the n triangles that a run names from `from` on, and whether all are there. One
+// that is missing is passed over: its place keeps what it holds.
 fn gather(
     vertices: &[f32],
     indices: &[u32],
     run: &[u32],
     from: usize,
     n: usize,
-    a: &mut [f32],
-    b: &mut [f32],
-    c: &mut [f32],
+    first: &mut [f32],
+    second: &mut [f32],
+    third: &mut [f32],
 ) -> bool
-    requires { ⌜ (from + n ≤ length (now run)) × (2 * n ≤ length (now a)) × (2 * n ≤ length (now b)) × (2 * n ≤ length (now c)) ⌝ }
-    ensures { λ r. ⌜ (r ≡ true → AllHeld (now (vertices .entry)) (now (indices .entry)) (now (run .entry)) from n (now (a .exit)) (now (b .exit)) (now (c .exit))) ⌝ }
+    requires { ⌜ (from + n ≤ length (now run)) × (2 * n ≤ length (now first)) × (2 * n ≤ length (now second)) × (2 * n ≤ length (now third)) ⌝ }
+    ensures { λ r. ⌜ Gathered (now (vertices .entry)) (now (indices .entry)) (now (run .entry)) from n (now (first .exit)) (now (second .exit)) (now (third .exit)) r ⌝ }
 {
-    let mut k: usize = 0;
-    while k < n {
-        let t = wide(run[from + k]);
-        let Fetch::Corners(p, q, r) = corners(vertices, indices, t) else {
-            return false;
+    let mut whole = true;
+    for k in 0..n {
+        let Fetch::Corners(a, b, c) = corners(vertices, indices, wide(run[from + k])) else {
+            whole = false;
+            continue;
         };
-        put_ground(a, k, p);
-        put_ground(b, k, q);
-        put_ground(c, k, r);
-        k += 1;
+        put_ground(first, k, a);
+        put_ground(second, k, b);
+        put_ground(third, k, c);
     }
-    true
+    whole
 }
 
 // The least weight of each of n triangles. With nothing else in the loop the compiler takes four at a time.
@@ -404,22 +404,6 @@ fn weigh_all(a: &[f32], b: &[f32], c: &[f32], n: usize, x: f32, y: f32, low: &mu
         low[k] = w.least();
         k += 1;
     }
-}
-
-// The peak after triangle t.
-fn turn(vertices: &[f32], indices: &[u32], t: usize, x: f32, y: f32, before: Peak) -> Peak
-    requires { ⌜ Poised (now vertices) (now indices) x y before ⌝ }
-    ensures { λ r. ⌜ r .best ≡ turnOf (now (vertices .entry)) (now (indices .entry)) x y (before .best) t ⌝ }
-    ensures { λ r. ⌜ Poised (now (vertices .entry)) (now (indices .entry)) x y r ⌝ }
-{
-    let Fetch::Corners(a, b, c) = corners(vertices, indices, t) else {
-        return before;
-    };
-    let w = weigh(a, b, c, x, y);
-    if w.inside() {
-        return before.higher(w.height(a, b, c), t, w);
-    }
-    before
 }
 
 // The peak after n more triangles of a run, of which those with too low a least weight are passed over.
@@ -446,7 +430,15 @@ fn low_turns(
         if low[k] < -1e-4 {
             continue;
         }
-        peak = turn(vertices, indices, wide(run[from + k]), x, y, peak);
+        let t = wide(run[from + k]);
+        let Fetch::Corners(a, b, c) = corners(vertices, indices, t) else {
+            continue;
+        };
+        let w = weigh(a, b, c, x, y);
+        if !w.inside() {
+            continue;
+        }
+        peak = peak.higher(w.height(a, b, c), t, w);
     }
     peak
 }
@@ -470,19 +462,8 @@ fn few_of(n: usize) -> usize
     16
 }
 
-// Sets n least weights to 0, which passes nothing over.
-fn pass_none(low: &mut [f32], n: usize)
-    requires { ⌜ n ≤ length (now low) ⌝ }
-    ensures { λ _. ⌜ NoneLow (now (low .exit)) n ⌝ }
-{
-    let mut k: usize = 0;
-    while k < n {
-        low[k] = 0.0;
-        k += 1;
-    }
-}
-
-// The least weights of n triangles of a run, if none of them is missing.
+// The least weights of n triangles of a run, and whether all are there. That of a missing one may be anything:
+// it covers nothing.
 fn weigh_part(
     vertices: &[f32],
     indices: &[u32],
@@ -500,12 +481,9 @@ fn weigh_part(
     requires { ⌜ (32 ≤ length (now a)) × (32 ≤ length (now b)) × (32 ≤ length (now c)) × (16 ≤ length (now low)) ⌝ }
     ensures { λ r. ⌜ Weighed (now (vertices .entry)) (now (indices .entry)) x y (now (run .entry)) from n (now (low .exit)) r ⌝ }
 {
-    if gather(vertices, indices, run, from, n, a, b, c) {
-        weigh_all(a, b, c, fours(n), x, y, low);
-        return true;
-    }
-    pass_none(low, n);
-    false
+    let whole = gather(vertices, indices, run, from, n, a, b, c);
+    weigh_all(a, b, c, fours(n), x, y, low);
+    whole
 }
 
 fn both(p: bool, q: bool) -> bool

@@ -25,6 +25,7 @@ use crate::sampler::word;
 use rounding::bits::bits32;
 use shape::refusal::Refusal;
 
+// How many words a record has.
 pub const RECORD_WORDS: usize = 8;
 
 // Eight words from `at` on, and where they end.
@@ -51,7 +52,7 @@ fn put_eight(
     out[at + 5] = f;
     out[at + 6] = g;
     out[at + 7] = h;
-    at + 8
+    at + RECORD_WORDS
 }
 
 // The record of a point's answer, from `at` on.

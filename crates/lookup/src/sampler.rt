@@ -25,6 +25,7 @@ use crate::mesh::Best;
 use crate::mesh::Peak;
 use crate::mesh::highest_in;
 use crate::mesh::normal_by;
+use crate::record::RECORD_WORDS;
 use crate::record::put_record;
 use shape::lists::mesh_fault;
 use shape::lists::record_word;
@@ -437,8 +438,8 @@ fn tops_open(
         ⌜ now (answers .exit) ≡ leaves (countAnswer (now (points .entry)) (length (now (answers .entry)))) (recordsOf m (now (index .entry)) (now (points .entry))) (now (answers .entry)) ⌝ }
 {
     let n = points.len() / 2;
-    if answers.len() < 8 * n {
-        return Sampling::Refused(Refusal::ShortOutput(8 * n));
+    if answers.len() < RECORD_WORDS * n {
+        return Sampling::Refused(Refusal::ShortOutput(RECORD_WORDS * n));
     }
     let mut at: usize = 0;
     let mut k: usize = 0;
@@ -466,8 +467,8 @@ fn tops_empty(points: &[f32], answers: &mut [u32]) -> Sampling
     ensures { λ _. ⌜ now (answers .exit) ≡ leaves (countAnswer (now (points .entry)) (length (now (answers .entry)))) (gather (λ (k : ℕ). recordOf (taken miss)) (length (now (points .entry)) / 2)) (now (answers .entry)) ⌝ }
 {
     let n = points.len() / 2;
-    if answers.len() < 8 * n {
-        return Sampling::Refused(Refusal::ShortOutput(8 * n));
+    if answers.len() < RECORD_WORDS * n {
+        return Sampling::Refused(Refusal::ShortOutput(RECORD_WORDS * n));
     }
     let mut at: usize = 0;
     let mut k: usize = 0;

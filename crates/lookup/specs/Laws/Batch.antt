@@ -1,24 +1,29 @@
 -- Every number of a point's record fits a word of 32 bits: the place of a cell's refusal, the triangle, and the lane, which is a word of the spans. And what the
 -- call for many points leaves is, point by point, the record of the single call. Assumes nothing.
-use Prim.Native.Nat.{ℕ, _+_, _*_, _/_, _<_}
-use mathlib.Core.Path.{_≡_, refl, sym, subst}
+use Prim.Native.Nat.{ℕ, zero, suc, _+_, _*_, _/_, _<_}
+use mathlib.Core.Path.{_≡_, refl, sym, subst, ap, _∙_}
 use mathlib.Core.Bool.{Bool, true, false, cond, _&&_}
-use mathlib.Core.List.{List}
+use mathlib.Core.List.{List, _++_, append-assoc}
+use mathlib.Core.Logic.{⊎-elim}
+use native.Mathlib.Nat.{eq-or-lt-of-le, le-of-suc-le-suc}
 use native.Mathlib.Omega.{arith}
 use lib.Dec.{ltb, leb}
-use lib.Ieee.{Float}
-use lib.ListN.{length, getD}
+use lib.Ieee.{Float, nan}
+use lib.ListN.{length, getD, take, drop}
+use lib.Seq.{take-at, drop-at}
 use borrow.Author.Tests.{lt-ltb}
 use Rattle.shape.specs.Lists.{Mesh, meshFault, wordOf, startOf}
-use Rattle.shape.specs.Refusal.{Fault, fine, fault, Answer, taken, refused, judge}
+use Rattle.shape.specs.Gather.{gather}
+use Rattle.shape.specs.Laws.Gather.{gather-even}
+use Rattle.shape.specs.Refusal.{Fault, fine, fault, Answer, taken, refused, judge, leaves}
 use Rattle.lookup.specs.declared.mesh.Best.{Best}
 use Rattle.lookup.specs.declared.mesh.Best.the-variants.{At, Nothing}
 use Rattle.lookup.specs.declared.sampler.Lane.the-variants.{Id, None}
 use Rattle.lookup.specs.Mesh.{triangles}
 use Rattle.lookup.specs.Plain.{scanOf, entryOf, lookupOf, plainOf, answerOf}
 use Rattle.lookup.specs.Consult.{Place, runIn, consultOf}
-use Rattle.lookup.specs.Sampler.{pastOf, laneOf, topFault, Sample, sampleOf, sampleIn, onward, topOf}
-use Rattle.lookup.specs.Batch.{laneId, wordFor}
+use Rattle.lookup.specs.Sampler.{pastOf, laneOf, topFault, Sample, hit, miss, sampleOf, sampleIn, onward, topOf}
+use Rattle.lookup.specs.Batch.{laneId, wordFor, recordOf, recordAt, recordsOf, pointsIn, topsOf}
 use Rattle.lookup.specs.Record.{plainSample, InWords}
 use Rattle.lookup.specs.Laws.Scan.{scan-found}
 use Rattle.lookup.specs.Laws.Plain.{covers-below}
@@ -90,3 +95,30 @@ plain-words m x y a e = go (meshFault m) refl e
     go : (f : Fault) → meshFault m ≡ f → plainSample (judge f (taken (plainOf m x y))) ≡ taken a → InWords (taken a)
     go fine f e = subst InWords e (lookup-words m x y f _ refl)
     go (fault k p) f e = absurd (never (sym e))
+
+-- ---- many points
+
+-- a record has eight words
+pub record-eight : (a : Answer Sample) → length (recordOf a) ≡ 8
+unfolding recordOf
+record-eight (taken (hit h n t l)) = refl
+record-eight (taken miss) = refl
+record-eight (refused number place) = refl
+
+-- of pieces of eight words one after another, piece k
+piece : (f : ℕ → List ℕ) → ((i : ℕ) → length (f i) ≡ 8) → (n k : ℕ) (rest : List ℕ) → k < n → take 8 (drop (8 * k) (gather f n ++ rest)) ≡ f k
+unfolding gather
+piece f e zero k rest l = absurd (omega arith)
+piece f e (suc n) k rest l =
+    ap (λ (xs : List ℕ). take 8 (drop (8 * k) xs)) (append-assoc (gather f n) (f n) rest)
+    ∙ ⊎-elim (λ (z : k ≡ n). last z) (λ (z : k < n). piece f e n k (f n ++ rest) z) (eq-or-lt-of-le (le-of-suc-le-suc l))
+  where
+    last : k ≡ n → take 8 (drop (8 * k) (gather f n ++ (f n ++ rest))) ≡ f k
+    last z = rw (z, drop-at (gather f n) (f n ++ rest) (8 * n) (gather-even f 8 e n), take-at (f n) rest 8 (e n))
+
+-- a call that is taken leaves, for each point, the record of the single call there
+pub batch-as-single : (m : Mesh) (ws : List ℕ) (ps : List Float) (old : List ℕ) {n : ℕ} → topsOf m ws ps (length old) ≡ taken n → (k : ℕ) → k < pointsIn ps
+    → take 8 (drop (8 * k) (leaves (topsOf m ws ps (length old)) (recordsOf m ws ps) old)) ≡ recordOf (topOf m ws (getD ps (2 * k) nan) (getD ps (2 * k + 1) nan))
+unfolding leaves recordsOf recordAt
+batch-as-single m ws ps old e k l =
+    rw e (piece (recordAt m ws ps) (λ i. record-eight (topOf m ws (getD ps (2 * i) nan) (getD ps (2 * i + 1) nan))) (pointsIn ps) k _ l)

@@ -5,7 +5,7 @@ use native.Mathlib.Omega.{arith}
 use lib.ListN.{length}
 use Rattle.lookup.specs.Plain.{scanOf}
 use Rattle.lookup.specs.Sixteen.{Poised, HitOf}
-use Rattle.lookup.proofs.Sixteens.{hit-step, poised-none}
+use Rattle.lookup.proofs.Sixteens.{exactly-none, hit-step, poised-none}
 use borrow.Author.Needs.{needs}
 use Rattle.lookup.proofs.mesh.highest_in.Statement.{statement}
 use Rattle.lookup.proofs.mesh.highest_in.Tie as tie
@@ -26,7 +26,7 @@ no-peak-requires c κs = search needs
 
 loop-holds : tie.Need-loop-holds Inv-loop μ-loop
 unfolding scanOf
-loop-holds c = (omega arith, refl, refl, refl, refl, record { found = c .no-peak .ensures; there = λ _ k l. absurd (omega arith) }, poised-none _ _ _ _ (c .no-peak .ensures))
+loop-holds c = (omega arith, refl, refl, refl, refl, record { found = c .no-peak .ensures; flag = exactly-none _ }, poised-none _ _ _ _ (c .no-peak .ensures))
 
 sub-few-of : tie.Need-sub-few-of Inv-loop μ-loop
 sub-few-of c = search needs
@@ -65,10 +65,10 @@ low-turns-requires c κs =
     ((omega (arith, f .few-of .ensures, l .0, f .before .loop-test), omega (arith, f .few-of .ensures)), (c .before .before .before .before .before .before .weigh-part .ensures .passing, (l .5 .found, l .6)))
 
 add-i : tie.Need-add-i Inv-loop μ-loop
-add-i c = let f = F (c .before .before .before .before .before .before .before) in omega (arith, f .few-of .ensures, f .before .loop-test)
+add-i c = let f = F (c .before .before .before .before .before .before .before) in omega (arith, f .few-of .ensures, f .before)
 
 loop-less : tie.Need-loop-less Inv-loop μ-loop
-loop-less c = let f = F (c .before .before .before .before .before .before .before) in omega (arith, f .few-of .ensures, f .before .loop-test)
+loop-less c = let f = F (c .before .before .before .before .before .before .before) in omega (arith, f .few-of .ensures, f .before)
 
 loop-again : tie.Need-loop-again Inv-loop μ-loop
 loop-again c =

@@ -1,11 +1,13 @@
 -- `lookup::mesh::low_turns` meets its contract. The loop's invariant: `peak` is the peak of the run up to place from + k. Assumes nothing.
 use Prim.Native.Nat.{ℕ, suc, _+_, _≤_, _-_}
 use native.Mathlib.Nat.{add-zero}
-use mathlib.Core.Path.{_≡_, refl, sym, _∙_}
+use mathlib.Core.Path.{_≡_, sym, _∙_}
 use native.Mathlib.Omega.{arith}
+use borrow.Author.Tests.{not-true, not-false}
 use Rattle.lookup.specs.Plain.{scanOf, entryOf}
 use Rattle.lookup.specs.Sixteen.{Poised}
-use Rattle.lookup.proofs.Sixteens.{pass-next, turn-next}
+use Rattle.lookup.proofs.Turns.{passed-missing, passed-outside, taken-inside}
+use Rattle.lookup.proofs.Sixteens.{pass-next, weighs, poised-next}
 use borrow.Author.Needs.{needs}
 use Rattle.lookup.proofs.mesh.low_turns.Statement.{statement}
 use Rattle.lookup.proofs.mesh.low_turns.Tie as tie
@@ -15,6 +17,13 @@ Inv-loop vertices indices run from n low x y peak₀ k₀ peak k = (k ≤ n) × 
 
 abbrev μ-loop : tie.MeasureT-loop
 μ-loop vertices indices run from n low x y peak₀ k₀ peak k = n - k
+
+-- the place where the triangle is named
+abbrev W : tie.After-corners Inv-loop μ-loop → tie.After-shared-slice-known6 Inv-loop μ-loop
+W c = c .before .before
+
+next : (a b : ℕ) → a + (b + 1) ≡ a + b + 1
+next a b = omega arith
 
 loop-holds : tie.Need-loop-holds Inv-loop μ-loop
 loop-holds c = (omega arith, rw add-zero (c .before .before .before .before .pre .1 .1 .0), c .before .before .before .before .pre .1 .1 .1)
@@ -50,21 +59,67 @@ shared-slice-read-wide c = omega (arith, c .before .before .before .before .befo
 wide-requires : tie.Need-wide-requires Inv-loop μ-loop
 wide-requires c κs = search needs
 
-turn-requires : tie.Need-turn-requires Inv-loop μ-loop
-turn-requires c κs = c .before .before .before .before .before .loop .inv .2
+corners-requires : tie.Need-corners-requires Inv-loop μ-loop
+corners-requires c κs = search needs
+
+enum-known-a : tie.Need-enum-known-a Inv-loop μ-loop
+enum-known-a c = search needs
+
+enum-told : tie.Need-enum-told Inv-loop μ-loop
+enum-told c = search needs
 
 add-k-2 : tie.Need-add-k-2 Inv-loop μ-loop
-add-k-2 c = omega (arith, c .before .before .before .before .before)
+add-k-2 c = let k = W (c .before .before) in omega (arith, k .before .before .before)
 
 loop-less-2 : tie.Need-loop-less-2 Inv-loop μ-loop
-loop-less-2 c = omega (arith, c .before .before .before .before .before)
+loop-less-2 c = let k = W (c .before .before) in omega (arith, k .before .before .before)
 
 loop-again-2 : tie.Need-loop-again-2 Inv-loop μ-loop
 loop-again-2 c =
-    let l = c .before .before .before .before .before .before .loop in
-    let s = c .before .before .before .before .before .before .before .before .before .before .before in
-    let e : s .args .from + (l .k + 1) ≡ suc (s .args .from + l .k) = omega arith in
-    (omega (arith, c .before .before .before .before .before), c .turn .ensures .0 ∙ turn-next _ _ _ _ _ _ _ _ _ (l .inv .1) (c .before .wide .ensures) e, c .turn .ensures .1)
+    let k = W (c .before .before) in
+    let l = k .before .before .before .before .loop in
+    (omega (arith, k .before .before .before), rw (next (k .before .before .before .before .before .before .before .before .before .args .from) (l .k)) (passed-missing _ _ _ _ _ _ (c .before .before .before .wide .ensures) _ (l .inv .1) (sym (c .enum-told .given .1) ∙ c .before .before .corners .ensures)), l .inv .2)
+
+weigh-requires : tie.Need-weigh-requires Inv-loop μ-loop
+weigh-requires c κs = search needs
+
+inside-requires : tie.Need-inside-requires Inv-loop μ-loop
+inside-requires c κs = search needs
+
+add-k-3 : tie.Need-add-k-3 Inv-loop μ-loop
+add-k-3 c = let k = W (c .before .before .before .before .before .before) in omega (arith, k .before .before .before)
+
+loop-less-3 : tie.Need-loop-less-3 Inv-loop μ-loop
+loop-less-3 c = let k = W (c .before .before .before .before .before .before) in omega (arith, k .before .before .before)
+
+loop-again-3 : tie.Need-loop-again-3 Inv-loop μ-loop
+loop-again-3 c =
+    let k = W (c .before .before .before .before .before .before) in
+    let l = k .before .before .before .before .loop in
+    (omega (arith, k .before .before .before), rw (next (k .before .before .before .before .before .before .before .before .before .args .from) (l .k)) (passed-outside _ _ _ _ _ _ (c .before .before .before .before .before .before .before .wide .ensures) _ (l .inv .1) (sym (c .before .before .before .before .a .given .1) ∙ c .before .before .before .before .before .before .corners .ensures) (rw (← c .before .before .weigh .ensures) (sym (c .before .inside .ensures) ∙ not-true _ (c .if2 .taken)))), l .inv .2)
+
+height-requires : tie.Need-height-requires Inv-loop μ-loop
+height-requires c κs = search needs
+
+higher-requires : tie.Need-higher-requires Inv-loop μ-loop
+higher-requires c κs = search needs
+
+add-k-4 : tie.Need-add-k-4 Inv-loop μ-loop
+add-k-4 c = let k = W (c .before .before .before .before .before .before .before .before) in omega (arith, k .before .before .before)
+
+loop-less-4 : tie.Need-loop-less-4 Inv-loop μ-loop
+loop-less-4 c = let k = W (c .before .before .before .before .before .before .before .before) in omega (arith, k .before .before .before)
+
+loop-again-4 : tie.Need-loop-again-4 Inv-loop μ-loop
+loop-again-4 c =
+    let k = W (c .before .before .before .before .before .before .before .before) in
+    let l = k .before .before .before .before .loop in
+    let f = sym (c .before .before .before .before .before .before .a .given .1) ∙ c .before .before .before .before .before .before .before .before .corners .ensures in (
+      omega (arith, k .before .before .before),
+      c .higher .ensures .0
+          ∙ rw (next (k .before .before .before .before .before .before .before .before .before .args .from) (l .k), c .before .height .ensures, c .before .before .before .before .weigh .ensures) (taken-inside _ _ _ _ _ _ (c .before .before .before .before .before .before .before .before .before .wide .ensures) _ (l .inv .1) f (rw (← c .before .before .before .before .weigh .ensures) (sym (c .before .before .before .inside .ensures) ∙ not-false _ (c .before .before .if2 .left)))),
+      poised-next _ _ _ _ (l .inv .2) (weighs _ _ _ _ f (c .before .before .before .before .weigh .ensures)) (c .higher .ensures .1),
+    )
 
 returns : tie.Need-returns Inv-loop μ-loop
 returns c = let e : c .before .loop .k ≡ c .before .before .before .before .before .before .args .n = omega arith in (rw (← e) (c .before .loop .inv .1), c .before .loop .inv .2)
@@ -85,8 +140,20 @@ low-turns-spec =
     mul-wide
     shared-slice-read-wide
     wide-requires
-    turn-requires
+    corners-requires
+    enum-known-a
+    enum-told
     add-k-2
     loop-less-2
     loop-again-2
+    weigh-requires
+    inside-requires
+    add-k-3
+    loop-less-3
+    loop-again-3
+    height-requires
+    higher-requires
+    add-k-4
+    loop-less-4
+    loop-again-4
     returns)

@@ -38,7 +38,7 @@ highest-in-requires : tie.Need-highest-in-requires
 highest-in-requires c κs = search needs
 
 run-check-requires : tie.Need-run-check-requires
-run-check-requires c κs = λ w r. run-sound _ _ _ _ _ _ (c .before .at .ensures) r (c .highest-in .ensures .0 .there w)
+run-check-requires c κs = λ w r. run-sound _ _ _ _ _ _ (c .before .at .ensures) r (c .highest-in .ensures .0 .flag .all w)
 
 enum-known-check : tie.Need-enum-known-check
 enum-known-check c = search needs
