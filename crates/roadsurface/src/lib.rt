@@ -13,10 +13,12 @@ ghost use Rattle.shape.specs.JunctionMesh.{ground, groundAnswer, Meshes, meshVe
 ghost use Rattle.shape.specs.SurfaceMesh.{given, meshOf, answerOf};
 ghost use Rattle.shape.specs.Verdict.{validityOf};
 ghost use Rattle.lookup.specs.Index.{indexWords, buildOf};
-ghost use Rattle.lookup.specs.Batch.{wordFor, recordsOf, topsOf};
+ghost use Rattle.lookup.specs.Sampler.{topOf};
+ghost use Rattle.lookup.specs.Batch.{wordFor, recordOf, recordsOf, topsOf};
+ghost use Rattle.lookup.specs.Record.{recordAnswer};
 ghost use Rattle.surface.specs.File.{wordsOf, bytesOf, readOf, writeOf};
 ghost use Rattle.surface.specs.Report.{reportOf, reportAnswer};
-ghost use Rattle.roadsurface.specs.Answers.{codeOf, leftIn, bitOf, foundIn, heightPut, kindOf, placePut, indexPut, verticesPut, gridOf, gridIf, ringFloats};
+ghost use Rattle.roadsurface.specs.Answers.{codeOf, leftIn, bitOf, foundIn, heightPut, kindOf, placePut, indexPut, verticesPut, gridOf, gridIf, ringFloats, plainAnswer};
 use crate::tell::tell_built;
 use crate::tell::tell_copied;
 use crate::tell::tell_ears;
@@ -27,6 +29,8 @@ use crate::tell::tell_outline;
 use crate::tell::tell_sampling;
 use crate::tell::tell_verdict;
 use lookup::grid::build;
+use lookup::record::height_record;
+use lookup::record::top_record;
 use lookup::sampler::tops;
 use shape::ears::ear_clip;
 use shape::elevation;
@@ -295,6 +299,30 @@ pub extern "C" fn rs_surface_mesh(
     tell_mesh(a, normal_count, index_count, span_count)
 }
 
+// The plain lookup: 1 found or 0 none, and its record, which names no lane.
+#[no_mangle]
+pub extern "C" fn rs_height_at(
+    vertices: &[f32],
+    normals: &[f32],
+    indices: &[u32],
+    spans: &[u32],
+    x: f32,
+    y: f32,
+    words: &mut [u32],
+) -> u64
+    ensures { λ r.
+        let s = plainAnswer (meshLists (now (vertices .entry)) (now (normals .entry)) (now (indices .entry)) (now (spans .entry))) x y in
+        let a = recordAnswer s (length (now (words .entry))) in
+        ⌜ r ≡ codeOf (λ n. n) a ⌝ }
+    ensures { λ _.
+        let s = plainAnswer (meshLists (now (vertices .entry)) (now (normals .entry)) (now (indices .entry)) (now (spans .entry))) x y in
+        let a = recordAnswer s (length (now (words .entry))) in
+        ⌜ now (words .exit) ≡ leaves a (recordOf s) (now (words .entry)) ⌝ }
+{
+    let a = height_record(vertices, normals, indices, spans, x, y, words);
+    tell_sampling(a)
+}
+
 // Builds the index of a mesh: how many words it has.
 #[no_mangle]
 pub extern "C" fn rs_build_index(
@@ -311,6 +339,31 @@ pub extern "C" fn rs_build_index(
 {
     let a = build(vertices, normals, indices, spans, index);
     tell_built(a)
+}
+
+// The indexed lookup: 1 found or 0 none, and its record.
+#[no_mangle]
+pub extern "C" fn rs_top(
+    vertices: &[f32],
+    normals: &[f32],
+    indices: &[u32],
+    spans: &[u32],
+    index: &[u32],
+    x: f32,
+    y: f32,
+    words: &mut [u32],
+) -> u64
+    ensures { λ r.
+        let s = topOf (meshLists (now (vertices .entry)) (now (normals .entry)) (now (indices .entry)) (now (spans .entry))) (now (index .entry)) x y in
+        let a = recordAnswer s (length (now (words .entry))) in
+        ⌜ r ≡ codeOf (λ n. n) a ⌝ }
+    ensures { λ _.
+        let s = topOf (meshLists (now (vertices .entry)) (now (normals .entry)) (now (indices .entry)) (now (spans .entry))) (now (index .entry)) x y in
+        let a = recordAnswer s (length (now (words .entry))) in
+        ⌜ now (words .exit) ≡ leaves a (recordOf s) (now (words .entry)) ⌝ }
+{
+    let a = top_record(vertices, normals, indices, spans, index, x, y, words);
+    tell_sampling(a)
 }
 
 // The indexed lookup at many points, eight words a point: how many points.
