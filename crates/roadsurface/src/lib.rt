@@ -134,8 +134,8 @@ pub extern "C" fn rs_elevation_height_at(
         start: start,
         spacing: spacing,
     };
-    let a = elevation::height_at(grid, rows, left, right, x, y);
-    tell_elevation(a, height)
+    let under = elevation::height_at(grid, rows, left, right, x, y);
+    tell_elevation(under, height)
 }
 
 // Boundary segments joined to a ring: its points. Told beside it: segments dropped, greatest gap, closed, turned.
@@ -319,8 +319,8 @@ pub extern "C" fn rs_height_at(
         let a = recordAnswer s (length (now (words .entry))) in
         ⌜ now (words .exit) ≡ leaves a (recordOf s) (now (words .entry)) ⌝ }
 {
-    let a = height_record(vertices, normals, indices, spans, x, y, words);
-    tell_sampling(a)
+    let plain = height_record(vertices, normals, indices, spans, x, y, words);
+    tell_sampling(plain)
 }
 
 // Builds the index of a mesh: how many words it has.
@@ -362,8 +362,8 @@ pub extern "C" fn rs_top(
         let a = recordAnswer s (length (now (words .entry))) in
         ⌜ now (words .exit) ≡ leaves a (recordOf s) (now (words .entry)) ⌝ }
 {
-    let a = top_record(vertices, normals, indices, spans, index, x, y, words);
-    tell_sampling(a)
+    let one = top_record(vertices, normals, indices, spans, index, x, y, words);
+    tell_sampling(one)
 }
 
 // The indexed lookup at many points, eight words a point: how many points.
@@ -386,8 +386,8 @@ pub extern "C" fn rs_tops(
         let a = topsOf m (now (index .entry)) (now (points .entry)) (length (now (records .entry))) in
         ⌜ now (records .exit) ≡ leaves a (recordsOf m (now (index .entry)) (now (points .entry))) (now (records .entry)) ⌝ }
 {
-    let a = tops(vertices, normals, indices, spans, index, points, records);
-    tell_sampling(a)
+    let many = tops(vertices, normals, indices, spans, index, points, records);
+    tell_sampling(many)
 }
 
 // The verdict on a mesh: its kind. Told beside it where that has them: the vertex or the triangle; the index
@@ -429,8 +429,8 @@ pub extern "C" fn rs_surface_read(bytes: &[u8], held: &mut [u32]) -> u64
     ensures { λ r. let a = readOf (now (bytes .entry)) (length (now (held .entry))) in ⌜ r ≡ codeOf (λ n. n) a ⌝ }
     ensures { λ _. let a = readOf (now (bytes .entry)) (length (now (held .entry))) in ⌜ now (held .exit) ≡ leaves a (wordsOf (now (bytes .entry))) (now (held .entry)) ⌝ }
 {
-    let a = read(bytes, held);
-    tell_copied(a)
+    let copied = read(bytes, held);
+    tell_copied(copied)
 }
 
 // The bytes of a surface that is held in words: how many.
@@ -439,8 +439,8 @@ pub extern "C" fn rs_surface_write(held: &[u32], bytes: &mut [u8]) -> u64
     ensures { λ r. let a = writeOf (now (held .entry)) (length (now (bytes .entry))) in ⌜ r ≡ codeOf (λ n. n) a ⌝ }
     ensures { λ _. let a = writeOf (now (held .entry)) (length (now (bytes .entry))) in ⌜ now (bytes .exit) ≡ leaves a (bytesOf (now (held .entry))) (now (bytes .entry)) ⌝ }
 {
-    let a = write(held, bytes);
-    tell_copied(a)
+    let written = write(held, bytes);
+    tell_copied(written)
 }
 
 // The text that `probe` prints of a surface file: how many bytes.
@@ -449,6 +449,6 @@ pub extern "C" fn rs_report(bytes: &[u8], text: &mut [u8]) -> u64
     ensures { λ r. let a = reportAnswer (now (bytes .entry)) (length (now (text .entry))) in ⌜ r ≡ codeOf (λ n. n) a ⌝ }
     ensures { λ _. let a = reportAnswer (now (bytes .entry)) (length (now (text .entry))) in ⌜ now (text .exit) ≡ leaves a (reportOf (now (bytes .entry))) (now (text .entry)) ⌝ }
 {
-    let a = report(bytes, text);
-    tell_copied(a)
+    let reported = report(bytes, text);
+    tell_copied(reported)
 }

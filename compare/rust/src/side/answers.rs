@@ -48,7 +48,7 @@ fn hit(o: &mut Out, a: Result<[u32; 8], Refused>) {
 }
 
 /// What is wrong with an index's first words: it turns back every call, for many points too.
-fn head_fault(m: &Lists, w: &[u32]) -> Option<Refused> {
+pub fn head_fault(m: &Lists, w: &[u32]) -> Option<Refused> {
     let foreign = |place: usize| Some(Refused { number: 4, place: place as u32 });
     if w.len() < 9 {
         return foreign(w.len());
