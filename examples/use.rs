@@ -3,6 +3,14 @@
 mod roadsurface;
 use roadsurface::{build_index, record, surface_mesh, tops, Lanes, Mesh, Refusal};
 
+fn wheel(k: usize, records: &[u32]) {
+    match record(records, k) {
+        Ok(Some(p)) => println!("{k}: height {}, lane {}", p.height, p.lane.unwrap_or(0)),
+        Ok(None) => println!("{k}: none"),
+        Err(r) => println!("{k}: refused {} at {}", r.number(), r.place()),
+    }
+}
+
 fn main() -> Result<(), Refusal> {
     let lanes = Lanes {
         points: &[0.0, 0.0, 2.0, 10.0, 0.0, 2.0],
@@ -17,11 +25,14 @@ fn main() -> Result<(), Refusal> {
     let (mut index, mut records) = ([0; 64], [0; 16]);
     let words = build_index(mesh, &mut index)?;
     for k in 0..tops(mesh, &index[..words], &[5.0, 1.0, 5.0, 9.0], &mut records)? {
-        match record(&records, k)? {
-            Some(p) => println!("{k}: height {}, lane {}", p.height, p.lane.unwrap()),
-            None => println!("{k}: none"),
-        }
+        wheel(k, &records);
     }
+
+    // an index that is spoilt where a wheel looks: that wheel is turned back, in its record
+    index[9] = 1000;
+    tops(mesh, &index[..words], &[5.0, 1.0], &mut records)?;
+    wheel(0, &records);
+    assert_eq!(record(&records, 2), Err(Refusal::NoRecord(2)));
     let r = build_index(mesh, &mut index[..9]).unwrap_err();
     println!("refused {} at {}", r.number(), r.place());
     Ok(())

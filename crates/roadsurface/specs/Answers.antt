@@ -10,9 +10,13 @@ use Rattle.shape.specs.declared.elevation.Spot.the-variants.{Missing, At}
 use Rattle.shape.specs.declared.elevation.ElevationGrid.{ElevationGrid}
 use Rattle.shape.specs.declared.junction.JunctionGrid.{JunctionGrid}
 use Rattle.shape.specs.declared.junction.JunctionGrid.the-variants.{Absent, Present}
+use Rattle.shape.specs.Lists.{Mesh}
 use Rattle.shape.specs.Outline.{resultOf}
 use Rattle.shape.specs.Verdict.{Validity, sound, empty, nonFinite, outOfRange, degenerate}
+use Rattle.lookup.specs.Plain.{answerOf}
+use Rattle.lookup.specs.Sampler.{Sample}
 use Rattle.lookup.specs.Batch.{wordFor}
+use Rattle.lookup.specs.Record.{plainSample}
 
 -- ---- the code and the numbers. A count or a place past 32 bits is told as ffffffff (`wordFor`)
 
@@ -88,6 +92,11 @@ gridOf x y sin cos start spacing = record { «origin_x» = x; «origin_y» = y; 
 unfoldable pub gridIf : Bool → ElevationGrid → JunctionGrid
 gridIf there g = cond there (Present g) Absent
 
--- the coordinates of the ring
+-- ---- by other names
+
+-- the plain lookup's answer, which names no lane; and the coordinates of the ring
+abbrev pub plainAnswer : Mesh → Float → Float → Answer Sample
+plainAnswer m x y = plainSample (answerOf m x y)
+
 abbrev pub ringFloats : List ℕ → List Float → List Float
 ringFloats = resultOf

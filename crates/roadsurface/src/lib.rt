@@ -13,10 +13,12 @@ ghost use Rattle.shape.specs.JunctionMesh.{ground, groundAnswer, Meshes, meshVe
 ghost use Rattle.shape.specs.SurfaceMesh.{given, meshOf, answerOf};
 ghost use Rattle.shape.specs.Verdict.{validityOf};
 ghost use Rattle.lookup.specs.Index.{indexWords, buildOf};
-ghost use Rattle.lookup.specs.Batch.{wordFor, recordsOf, topsOf};
+ghost use Rattle.lookup.specs.Sampler.{topOf};
+ghost use Rattle.lookup.specs.Batch.{wordFor, recordOf, recordsOf, topsOf};
+ghost use Rattle.lookup.specs.Record.{recordAnswer};
 ghost use Rattle.surface.specs.File.{wordsOf, bytesOf, readOf, writeOf};
 ghost use Rattle.surface.specs.Report.{reportOf, reportAnswer};
-ghost use Rattle.roadsurface.specs.Answers.{codeOf, leftIn, bitOf, foundIn, heightPut, kindOf, placePut, indexPut, verticesPut, gridOf, gridIf, ringFloats};
+ghost use Rattle.roadsurface.specs.Answers.{codeOf, leftIn, bitOf, foundIn, heightPut, kindOf, placePut, indexPut, verticesPut, gridOf, gridIf, ringFloats, plainAnswer};
 use crate::tell::tell_built;
 use crate::tell::tell_copied;
 use crate::tell::tell_ears;
@@ -27,6 +29,8 @@ use crate::tell::tell_outline;
 use crate::tell::tell_sampling;
 use crate::tell::tell_verdict;
 use lookup::grid::build;
+use lookup::record::height_record;
+use lookup::record::top_record;
 use lookup::sampler::tops;
 use shape::ears::ear_clip;
 use shape::elevation;
@@ -130,8 +134,8 @@ pub extern "C" fn rs_elevation_height_at(
         start: start,
         spacing: spacing,
     };
-    let a = elevation::height_at(grid, rows, left, right, x, y);
-    tell_elevation(a, height)
+    let under = elevation::height_at(grid, rows, left, right, x, y);
+    tell_elevation(under, height)
 }
 
 // Boundary segments joined to a ring: its points. Told beside it: segments dropped, greatest gap, closed, turned.
@@ -295,6 +299,30 @@ pub extern "C" fn rs_surface_mesh(
     tell_mesh(a, normal_count, index_count, span_count)
 }
 
+// The plain lookup: 1 found or 0 none, and its record, which names no lane.
+#[no_mangle]
+pub extern "C" fn rs_height_at(
+    vertices: &[f32],
+    normals: &[f32],
+    indices: &[u32],
+    spans: &[u32],
+    x: f32,
+    y: f32,
+    words: &mut [u32],
+) -> u64
+    ensures { λ r.
+        let s = plainAnswer (meshLists (now (vertices .entry)) (now (normals .entry)) (now (indices .entry)) (now (spans .entry))) x y in
+        let a = recordAnswer s (length (now (words .entry))) in
+        ⌜ r ≡ codeOf (λ n. n) a ⌝ }
+    ensures { λ _.
+        let s = plainAnswer (meshLists (now (vertices .entry)) (now (normals .entry)) (now (indices .entry)) (now (spans .entry))) x y in
+        let a = recordAnswer s (length (now (words .entry))) in
+        ⌜ now (words .exit) ≡ leaves a (recordOf s) (now (words .entry)) ⌝ }
+{
+    let plain = height_record(vertices, normals, indices, spans, x, y, words);
+    tell_sampling(plain)
+}
+
 // Builds the index of a mesh: how many words it has.
 #[no_mangle]
 pub extern "C" fn rs_build_index(
@@ -311,6 +339,31 @@ pub extern "C" fn rs_build_index(
 {
     let a = build(vertices, normals, indices, spans, index);
     tell_built(a)
+}
+
+// The indexed lookup: 1 found or 0 none, and its record.
+#[no_mangle]
+pub extern "C" fn rs_top(
+    vertices: &[f32],
+    normals: &[f32],
+    indices: &[u32],
+    spans: &[u32],
+    index: &[u32],
+    x: f32,
+    y: f32,
+    words: &mut [u32],
+) -> u64
+    ensures { λ r.
+        let s = topOf (meshLists (now (vertices .entry)) (now (normals .entry)) (now (indices .entry)) (now (spans .entry))) (now (index .entry)) x y in
+        let a = recordAnswer s (length (now (words .entry))) in
+        ⌜ r ≡ codeOf (λ n. n) a ⌝ }
+    ensures { λ _.
+        let s = topOf (meshLists (now (vertices .entry)) (now (normals .entry)) (now (indices .entry)) (now (spans .entry))) (now (index .entry)) x y in
+        let a = recordAnswer s (length (now (words .entry))) in
+        ⌜ now (words .exit) ≡ leaves a (recordOf s) (now (words .entry)) ⌝ }
+{
+    let one = top_record(vertices, normals, indices, spans, index, x, y, words);
+    tell_sampling(one)
 }
 
 // The indexed lookup at many points, eight words a point: how many points.
@@ -333,8 +386,8 @@ pub extern "C" fn rs_tops(
         let a = topsOf m (now (index .entry)) (now (points .entry)) (length (now (records .entry))) in
         ⌜ now (records .exit) ≡ leaves a (recordsOf m (now (index .entry)) (now (points .entry))) (now (records .entry)) ⌝ }
 {
-    let a = tops(vertices, normals, indices, spans, index, points, records);
-    tell_sampling(a)
+    let many = tops(vertices, normals, indices, spans, index, points, records);
+    tell_sampling(many)
 }
 
 // The verdict on a mesh: its kind. Told beside it where that has them: the vertex or the triangle; the index
@@ -376,8 +429,8 @@ pub extern "C" fn rs_surface_read(bytes: &[u8], held: &mut [u32]) -> u64
     ensures { λ r. let a = readOf (now (bytes .entry)) (length (now (held .entry))) in ⌜ r ≡ codeOf (λ n. n) a ⌝ }
     ensures { λ _. let a = readOf (now (bytes .entry)) (length (now (held .entry))) in ⌜ now (held .exit) ≡ leaves a (wordsOf (now (bytes .entry))) (now (held .entry)) ⌝ }
 {
-    let a = read(bytes, held);
-    tell_copied(a)
+    let copied = read(bytes, held);
+    tell_copied(copied)
 }
 
 // The bytes of a surface that is held in words: how many.
@@ -386,8 +439,8 @@ pub extern "C" fn rs_surface_write(held: &[u32], bytes: &mut [u8]) -> u64
     ensures { λ r. let a = writeOf (now (held .entry)) (length (now (bytes .entry))) in ⌜ r ≡ codeOf (λ n. n) a ⌝ }
     ensures { λ _. let a = writeOf (now (held .entry)) (length (now (bytes .entry))) in ⌜ now (bytes .exit) ≡ leaves a (bytesOf (now (held .entry))) (now (bytes .entry)) ⌝ }
 {
-    let a = write(held, bytes);
-    tell_copied(a)
+    let written = write(held, bytes);
+    tell_copied(written)
 }
 
 // The text that `probe` prints of a surface file: how many bytes.
@@ -396,6 +449,6 @@ pub extern "C" fn rs_report(bytes: &[u8], text: &mut [u8]) -> u64
     ensures { λ r. let a = reportAnswer (now (bytes .entry)) (length (now (text .entry))) in ⌜ r ≡ codeOf (λ n. n) a ⌝ }
     ensures { λ _. let a = reportAnswer (now (bytes .entry)) (length (now (text .entry))) in ⌜ now (text .exit) ≡ leaves a (reportOf (now (bytes .entry))) (now (text .entry)) ⌝ }
 {
-    let a = report(bytes, text);
-    tell_copied(a)
+    let reported = report(bytes, text);
+    tell_copied(reported)
 }

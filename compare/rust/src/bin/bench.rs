@@ -57,10 +57,11 @@ fn lookups(b: &Bench) {
         let m = road_mesh(n);
         let l = Lists::of(&m);
         let q = road_queries(&m, (2_000_000 / n).max(50));
+        let mut record = [0; 8];
         b.pair(
             &format!("plain lookup, {n} triangles"), q.len(), 0.8,
             || q.iter().for_each(|&(x, y)| { black_box(black_box(&m).height_at(black_box(x), black_box(y))); }),
-            || q.iter().for_each(|&(x, y)| { let _ = black_box(ours::height_at(black_box(&l), black_box(x), black_box(y))); }),
+            || q.iter().for_each(|&(x, y)| { let _ = black_box(ours::height_at_into(black_box(&l), black_box(x), black_box(y), black_box(&mut record))); }),
         );
     }
     for n in [2_000, 20_000, 65_000] {
@@ -70,12 +71,12 @@ fn lookups(b: &Bench) {
         let w = index_of(&l);
         let q = road_queries(&m, 20_000);
         let spans = m.lanes.len();
-        let mut answer = [0; 8];
+        let mut record = [0; 8];
         b.pair(
             &format!("indexed lookup, 1 point to a call, {n} triangles, {spans} spans"), q.len(), 0.7,
             || q.iter().for_each(|&(x, y)| { black_box(black_box(&s).top_lane(black_box(x), black_box(y))); }),
             || q.iter().for_each(|&(x, y)| {
-                let _ = black_box(ours::top_into(black_box(&l), black_box(&w), black_box(x), black_box(y), black_box(&mut answer)));
+                let _ = black_box(ours::top_into(black_box(&l), black_box(&w), black_box(x), black_box(y), black_box(&mut record)));
             }),
         );
         // the wheels of one cab, and of forty

@@ -42,17 +42,44 @@ fn floats(o: &mut Out, xs: &[f32]) {
     xs.iter().for_each(|&x| o.f(x));
 }
 
-fn hit(o: &mut Out, a: Result<[u64; 8], Refused>) {
-    match a {
-        Ok(w) => w.iter().for_each(|&w| o.u(w as u32)),
-        Err(r) => [2, r.number, r.place, 0, 0, 0, 0, 0].into_iter().for_each(|x| o.u(x)),
-    }
+fn hit(o: &mut Out, a: Result<[u32; 8], Refused>) {
+    let words = a.unwrap_or_else(|r| [2, r.number, r.place, 0, 0, 0, 0, 0]);
+    words.iter().for_each(|&w| o.u(w));
 }
 
-/// All points in one call: each record must be the single call's.
+/// What is wrong with an index's first words: it turns back every call, for many points too.
+pub fn head_fault(m: &Lists, w: &[u32]) -> Option<Refused> {
+    let foreign = |place: usize| Some(Refused { number: 4, place: place as u32 });
+    if w.len() < 9 {
+        return foreign(w.len());
+    }
+    if w[0] as usize != m.indices.len() / 3 {
+        return foreign(0);
+    }
+    let cells = (w[1], w[2]);
+    if cells != (0, 0) && !(1..=1024).contains(&w[1]) {
+        return foreign(if w[1] > 1024 { 1 } else { 2 });
+    }
+    if cells != (0, 0) && !(1..=1024).contains(&w[2]) {
+        return foreign(2);
+    }
+    let declared = if cells == (0, 0) { 9 } else { 9 + w[1] as usize * w[2] as usize + 1 + w[8] as usize };
+    if w.len() < declared { foreign(w.len()) } else { None }
+}
+
+/// All points in one call: each record must be the single call's, unless the index's first words are foreign, which turns
+/// the call back and comes before a short output.
 fn batch(m: &Lists, index: &[u32], q: &[(f32, f32)], told: &[u32]) -> R<()> {
     let points: Vec<f32> = q.iter().flat_map(|&(x, y)| [x, y]).collect();
     let mut answers = vec![WORD; 8 * q.len() + 3];
+    if let Some(r) = head_fault(m, index) {
+        for room in [answers.len(), (8 * q.len()).saturating_sub(1)] {
+            if ours::tops(m, index, &points, &mut answers[..room]) != Err(r) {
+                return Err(format!("batch of {}: not {r:?}", q.len()));
+            }
+        }
+        return untouched(&answers, 0, WORD);
+    }
     match ours::tops(m, index, &points, &mut answers) {
         Ok(n) if n == q.len() => {}
         other => return Err(format!("batch of {}: {other:?}", q.len())),
@@ -78,12 +105,9 @@ fn ring(i: &mut In, o: &mut Out) -> R<()> {
     let n = 3 * a[0] as usize;
     untouched(&out, n, FLOAT)?;
     short(n, FLOAT, |out| ours::ring(&runs, &points, out).map(|_| ()))?;
-    o.u(a[0] as u32);
+    o.u(a[0]);
     floats(o, &out[..n]);
-    o.u(a[1] as u32);
-    o.u(a[2] as u32);
-    o.u(a[3] as u32);
-    o.u(a[4] as u32);
+    a[1..].iter().for_each(|&w| o.u(w));
     Ok(())
 }
 
@@ -129,7 +153,7 @@ fn surface_mesh(i: &mut In, o: &mut Out) -> R<()> {
     let (mut v, mut n) = (vec![FLOAT; 6 * most + 7], vec![FLOAT; 6 * most + 7]);
     let (mut w, mut s) = (vec![WORD; 6 * most + 7], vec![WORD; 5 * lanes.len() + 7]);
     let a = ours::surface_mesh(&l, &mut v, &mut n, &mut w, &mut s).or_else(refused)?;
-    let [av, an, ai, asp] = a.map(|x| x as usize);
+    let [av, an, ai, asp] = a;
     untouched(&v, 3 * av, FLOAT)?;
     untouched(&n, 3 * an, FLOAT)?;
     untouched(&w, ai, WORD)?;
@@ -177,7 +201,11 @@ fn indexed(m: &Lists, index: &[u32], q: &[(f32, f32)], o: &mut Out) -> R<()> {
     o.u(q.len() as u32);
     let from = o.words.len();
     for &(x, y) in q {
-        hit(o, ours::top(m, index, x, y));
+        let a = ours::top(m, index, x, y);
+        if a.is_ok() {
+            short(8, WORD, |out| ours::top_into(m, index, x, y, out).map(|_| ()))?;
+        }
+        hit(o, a);
     }
     batch(m, index, q, &o.words[from..])
 }
@@ -240,7 +268,7 @@ pub fn one(op: &str, i: &mut In, o: &mut Out) -> R<()> {
         "surface_mesh" => surface_mesh(i, o),
         "validate" => {
             let a = ours::validate(&Lists::of(&i.mesh()?)).or_else(refused)?;
-            a.iter().for_each(|&w| o.u(w as u32));
+            a.iter().for_each(|&w| o.u(w));
             Ok(())
         }
         "height_at" => {
@@ -249,7 +277,11 @@ pub fn one(op: &str, i: &mut In, o: &mut Out) -> R<()> {
             o.u(q.len() as u32);
             for (x, y) in q {
                 let a = ours::height_at(&m, x, y).or_else(refused)?;
-                a.iter().for_each(|&w| o.u(w as u32));
+                if a[6..] != [0, 0] {
+                    return Err("the plain lookup names a lane".into());
+                }
+                short(8, WORD, |out| ours::height_at_into(&m, x, y, out).map(|_| ()))?;
+                a[..6].iter().for_each(|&w| o.u(w));
             }
             Ok(())
         }

@@ -1,5 +1,6 @@
 //! Bad lists. The Rust has no refusals, so what a call must answer is worked out here from document 01's table, list by
 //! list and run by run; the library must give that number and place and leave all lent memory as it was.
+use crate::answers::head_fault;
 use crate::ours::{self, GridLists, LaneLists, Lists, Refused};
 use oracle::gen::Rng;
 
@@ -173,17 +174,19 @@ fn kept<T: PartialEq>(xs: &[T], pattern: T) -> bool {
 /// What was asked of a call: what the table says, what the library said, and whether it left the lent memory as it was.
 pub struct Case {
     pub wanted: Fault,
+    /// `wanted` is all that can be wrong with the call, a short output included.
+    pub whole: bool,
     pub said: Fault,
     pub kept: bool,
 }
 
 impl Case {
-    /// Refused as the table says; where it says nothing, not with 1 or 2 for the input.
+    /// Refused as the table says; where it says nothing, not with 2, and not at all if it was asked whole.
     pub fn right(&self) -> bool {
         match (self.wanted, self.said) {
             (Some(a), Some(b)) => a == b && self.kept,
             (Some(_), None) => false,
-            (None, Some(r)) => r.number != 2 && self.kept,
+            (None, Some(r)) => !self.whole && r.number != 2 && self.kept,
             (None, None) => true,
         }
     }
@@ -197,7 +200,7 @@ pub fn case(call: &str, seed: u64, k: u64) -> Case {
         "height" => {
             let g = grid(r);
             let said = ours::height(&g, r.once(2), 0.5, 0.5).err();
-            Case { wanted: grid_limits(&g).or(grid_ragged(&g, 0)), said, kept: true }
+            Case { wanted: grid_limits(&g).or(grid_ragged(&g, 0)), whole: true, said, kept: true }
         }
         "ring" => {
             let p = size(r, 3, 4096);
@@ -210,7 +213,7 @@ pub fn case(call: &str, seed: u64, k: u64) -> Case {
             let segments = records(r, 2, count, &[0], &[p / 3], 4096);
             let mut out = vec![FLOAT; r.below(p + 3)];
             let said = ours::ring(&segments, &points, &mut out).err();
-            Case { wanted: ring_fault(&segments, &points), said, kept: kept(&out, FLOAT) }
+            Case { wanted: ring_fault(&segments, &points), whole: false, said, kept: kept(&out, FLOAT) }
         }
         "ear_clip" => {
             let n = match r.below(200) {
@@ -222,7 +225,7 @@ pub fn case(call: &str, seed: u64, k: u64) -> Case {
             let ring = floats(r, n);
             let mut out = vec![WORD; r.below(n + 1)];
             let said = ours::ear_clip(&ring, &mut out).err();
-            Case { wanted: is(n > 3 * 1024, 1, 1024).or(is(n % 3 != 0, 2, 0)), said, kept: kept(&out, WORD) }
+            Case { wanted: is(n > 3 * 1024, 1, 1024).or(is(n % 3 != 0, 2, 0)), whole: false, said, kept: kept(&out, WORD) }
         }
         "junction_mesh" => {
             let n = if r.once(40) { 3 * 1024 + r.below(4) } else { r.below(25) };
@@ -231,42 +234,66 @@ pub fn case(call: &str, seed: u64, k: u64) -> Case {
             let (mut v, mut m, mut w) = (vec![FLOAT; r.below(300)], vec![FLOAT; r.below(300)], vec![WORD; r.below(100)]);
             let said = ours::junction_mesh(&ring, Some(&g), &mut v, &mut m, &mut w).err();
             let wanted = is(n > 3 * 1024, 1, 1024).or(grid_limits(&g)).or(is(n % 3 != 0, 2, 0)).or(grid_ragged(&g, 1));
-            Case { wanted, said, kept: kept(&v, FLOAT) && kept(&m, FLOAT) && kept(&w, WORD) }
+            Case { wanted, whole: false, said, kept: kept(&v, FLOAT) && kept(&m, FLOAT) && kept(&w, WORD) }
         }
         "surface_mesh" => {
             let l = lanes(r);
             let (mut v, mut n) = (vec![FLOAT; r.below(200)], vec![FLOAT; r.below(200)]);
             let (mut i, mut s) = (vec![WORD; r.below(100)], vec![WORD; r.below(30)]);
             let said = ours::surface_mesh(&l, &mut v, &mut n, &mut i, &mut s).err();
-            Case { wanted: lane_fault(&l), said, kept: kept(&v, FLOAT) && kept(&n, FLOAT) && kept(&i, WORD) && kept(&s, WORD) }
+            Case { wanted: lane_fault(&l), whole: false, said, kept: kept(&v, FLOAT) && kept(&n, FLOAT) && kept(&i, WORD) && kept(&s, WORD) }
         }
         _ => of_mesh(call, r),
     }
 }
 
+/// Words that may be an index of the mesh: its count of triangles mostly, and a few cells without entries.
+fn words(r: &mut Rng, m: &Lists) -> Vec<u32> {
+    let n = if r.once(300) { 4_194_304 + r.below(2) } else { r.below(20) };
+    let mut w = vec![0; n];
+    if n > 2 && !r.once(4) {
+        w[0] = m.indices.len() as u32 / 3;
+        if r.once(2) {
+            w[1] = [0, 1, 2, 1025][r.below(4)];
+            w[2] = [0, 1, 2, 1025][r.below(4)];
+        }
+    }
+    w
+}
+
 fn of_mesh(call: &str, r: &mut Rng) -> Case {
     let m = mesh(r);
     let fault = mesh_limits(&m).or(mesh_ragged(&m));
+    let room = r.below(12);
+    let mut record = vec![WORD; room];
+    let short = is(room < 8, 3, 8);
     match call {
-        "validate" => Case { wanted: fault, said: ours::validate(&m).err(), kept: true },
-        "height_at" => Case { wanted: fault, said: ours::height_at(&m, 1.0, 1.0).err(), kept: true },
+        "validate" => Case { wanted: fault, whole: true, said: ours::validate(&m).err(), kept: true },
+        "height_at" => {
+            let said = ours::height_at_into(&m, 1.0, 1.0, &mut record).err();
+            Case { wanted: fault.or(short), whole: true, said, kept: kept(&record, WORD) }
+        }
         "build" => {
             let mut index = vec![WORD; r.below(40)];
             let said = ours::build(&m, &mut index).err();
-            Case { wanted: fault, said, kept: kept(&index, WORD) }
+            Case { wanted: fault, whole: false, said, kept: kept(&index, WORD) }
         }
         _ => {
-            let n = if r.once(300) { 4_194_304 + r.below(2) } else { r.below(20) };
-            let index = vec![0; n];
-            let wanted = mesh_limits(&m).or(is(n > 4_194_304, 1, 4_194_304)).or(mesh_ragged(&m));
+            let index = words(r, &m);
+            let fault = mesh_limits(&m).or(is(index.len() > 4_194_304, 1, 4_194_304)).or(mesh_ragged(&m));
             if call == "top" {
-                let said = ours::top(&m, &index, 1.0, 1.0).err();
-                return Case { wanted, said, kept: true };
+                let said = ours::top_into(&m, &index, 1.0, 1.0, &mut record).err();
+                return Case { wanted: fault.or(head_fault(&m, &index)).or(short), whole: true, said, kept: kept(&record, WORD) };
             }
             let points = vec![1.0; r.below(7)];
-            let mut answers = vec![WORD; r.below(30)];
-            let said = ours::tops(&m, &index, &points, &mut answers).err();
-            Case { wanted: wanted.or(is(points.len() % 2 != 0, 2, 5)), said, kept: kept(&answers, WORD) }
+            let mut records = vec![WORD; r.below(30)];
+            let said = ours::tops(&m, &index, &points, &mut records).err();
+            let least = 8 * (points.len() / 2);
+            let wanted = fault
+                .or(is(points.len() % 2 != 0, 2, 5))
+                .or(head_fault(&m, &index))
+                .or(is(records.len() < least, 3, least as u32));
+            Case { wanted, whole: true, said, kept: kept(&records, WORD) }
         }
     }
 }
