@@ -1,46 +1,57 @@
--- `surface::report::report` meets its contract, by the room that there is. Assumes nothing.
-use Prim.Native.Nat.{ℕ}
-use native.Mathlib.Omega.{arith}
-use denote.Ref.{now}
-use lib.ListN.{length-replicate}
-use Rattle.surface.proofs.Reporting.{made-fits, made-part, told-short, told-whole}
 use borrow.Author.Needs.{needs}
 use Rattle.surface.proofs.report.report.Statement.{statement}
 use Rattle.surface.proofs.report.report.Tie as tie
+use Rattle.surface.proofs.report.report.Reads as reads
+use Rattle.surface.proofs.report.report.Lts as lts
+use Rattle.surface.proofs.file.file_fault.Reads as file-fault-reads
+use Rattle.surface.proofs.report.tell_refusal.Reads as tell-refusal-reads
+use Rattle.surface.proofs.report.tell_surface.Reads as tell-surface-reads
 
-slice-aggregate-put-report : tie.Need-slice-aggregate-put-report
-slice-aggregate-put-report c = search needs
+-- src/report.rt:315:9
+file-fault-requires : tie.Need-file-fault-requires
+file-fault-requires c κs = search needs
 
-put-report-requires : tie.Need-put-report-requires
-put-report-requires c κs = search needs
+-- src/report.rt:316:26
+enum-known-check : tie.Need-enum-known-check
+enum-known-check c = search needs
 
-returns : tie.Need-returns
-returns c = told-short (now (c .before .before .before .before .before .before .args .bytes)) (omega (arith, length-replicate {A = ℕ} 204834 0)) (c .before .before .put-report .ensures) (now (c .before .before .before .before .before .before .args .text)) (c .if1 .taken)
+-- src/report.rt:317:9
+tell-refusal-requires : tie.Need-tell-refusal-requires
+tell-refusal-requires c κs = ?
 
-array-share-prefix-made : tie.Need-array-share-prefix-made
-array-share-prefix-made c = made-fits (now (c .before .before .before .before .before .before .before .args .bytes)) (omega (arith, length-replicate {A = ℕ} 204834 0)) (c .before .before .before .put-report .ensures)
-
-slice-aggregate-put-bytes : tie.Need-slice-aggregate-put-bytes
-slice-aggregate-put-bytes c = made-part (now (c .before .before .before .before .before .before .before .before .args .bytes)) (omega (arith, length-replicate {A = ℕ} 204834 0)) (c .before .before .before .before .put-report .ensures)
-
-put-bytes-requires : tie.Need-put-bytes-requires
-put-bytes-requires c κs = omega (arith, made-part (now (c .before .before .before .before .before .before .before .before .args .bytes)) (omega (arith, length-replicate {A = ℕ} 204834 0)) (c .before .before .before .before .put-report .ensures), c .before .before .if1 .left)
-
+-- src/report.rt:317:9
 same-length : tie.Need-same-length
 same-length c = search needs
 
+-- src/report.rt:317:9
+returns : tie.Need-returns
+returns c = ?
+
+enum-told : tie.Need-enum-told
+enum-told c = search needs
+
+-- src/report.rt:319:5
+tell-surface-requires : tie.Need-tell-surface-requires
+tell-surface-requires c κs = ?
+
+-- src/report.rt:311:1
+same-length-2 : tie.Need-same-length-2
+same-length-2 c = search needs
+
+-- src/report.rt:311:1
 returns-2 : tie.Need-returns-2
-returns-2 c = told-whole (now (c .before .before .before .before .before .before .before .before .before .before .before .args .bytes)) (omega (arith, length-replicate {A = ℕ} 204834 0)) (c .before .before .before .before .before .before .before .put-report .ensures) (now (c .before .before .before .before .before .before .before .before .before .before .before .args .text)) (c .before .before .before .before .before .if1 .left) (c .before .before .put-bytes .ensures)
+returns-2 c = ?
 
 pub report-spec : {M : Type 1} → statement M
 report-spec =
     tie.close
     (tie.spec
-    slice-aggregate-put-report
-    put-report-requires
-    returns
-    array-share-prefix-made
-    slice-aggregate-put-bytes
-    put-bytes-requires
+    file-fault-requires
+    enum-known-check
+    tell-refusal-requires
     same-length
+    returns
+    enum-told
+    tell-surface-requires
+    same-length-2
     returns-2)
