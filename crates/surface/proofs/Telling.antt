@@ -156,7 +156,6 @@ module _ (k : ℕ) {line : Line} where
   unfolding textOf
   puts-none e p = rw e p
 
-
 module _ (k : ℕ) (told : Told) {line : Line} {n : ℕ} where
   pub counts-found : {h : Float} {v : Vector} {t lane : ℕ} → line ≡ Found h v t lane → n ≡ 64 + length (digitsOf 9 k) + length (digitsOf 9 t) + length (laneText lane)
       → (told .size + n ≡ told .size + length (textOf k line)) × (told .found + 1 ≡ told .found + cond (isFound line) 1 0)

@@ -178,13 +178,7 @@ fn tally(bytes: &[u8], sizes: Sizes, records: &[u32]) -> Told
 }
 
 // The lines of all questions, and the last line.
-fn put_lines(
-    bytes: &[u8],
-    sizes: Sizes,
-    records: &[u32],
-    found: usize,
-    out: &mut [u8],
-) -> usize
+fn put_lines(bytes: &[u8], sizes: Sizes, records: &[u32], found: usize, out: &mut [u8]) -> usize
     requires { ⌜ Asked (wordsOf (now bytes)) sizes (now records) ⌝ }
     requires { ⌜ found ≡ howMany (answeredAt (wordsOf (now bytes))) (countKind (wordsOf (now bytes)) 3) ⌝ }
     requires { ⌜ length (linesOf (wordsOf (now bytes))) ≤ length (now out) ⌝ }

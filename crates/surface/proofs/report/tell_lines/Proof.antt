@@ -1,39 +1,68 @@
+-- `surface::report::tell_lines` meets its contract, by the room that there is. Assumes nothing.
+use mathlib.Core.Path.{refl}
+use native.Mathlib.Omega.{arith}
+use denote.Ref.{now}
+use Rattle.surface.specs.File.{wordsOf}
+use Rattle.surface.specs.Held.{countKind}
+use Rattle.surface.specs.Report.{answeredAt}
+use Rattle.surface.specs.Laws.Held.{howMany-le}
+use Rattle.surface.specs.Laws.Report.{lines-few}
+use Rattle.surface.proofs.Telling.{asked-are, asked-most, whole-size}
+use Rattle.surface.proofs.Reporting.{says-short, says-whole}
 use borrow.Author.Needs.{needs}
 use Rattle.surface.proofs.report.tell_lines.Statement.{statement}
 use Rattle.surface.proofs.report.tell_lines.Tie as tie
-use Rattle.surface.proofs.report.tell_lines.Reads as reads
-use Rattle.surface.proofs.report.tell_lines.Lts as lts
-use Rattle.surface.proofs.report.put_lines.Reads as put-lines-reads
-use Rattle.surface.proofs.report.tally.Reads as tally-reads
-use Rattle.surface.proofs.text.asked_length.Reads as asked-length-reads
 
--- src/report.rt:208:9
 tally-requires : tie.Need-tally-requires
 tally-requires c κs = search needs
 
--- src/report.rt:209:30
 asked-length-requires : tie.Need-asked-length-requires
-asked-length-requires c κs = ?
+asked-length-requires c κs =
+    let s = c .before .before .before .before in
+    let ws = wordsOf (now (s .args .bytes)) in
+    let m = asked-most (s .pre) in
+    (omega (arith, m), omega (arith, c .tally .ensures .answers, howMany-le (answeredAt ws) (countKind ws 3), asked-are (s .pre), m))
 
--- src/report.rt:209:18
 add-wanted : tie.Need-add-wanted
-add-wanted c = ?
+add-wanted c =
+    let a = c .before in
+    let t = a .before in
+    let s = t .before .before .before .before in
+    let ws = wordsOf (now (s .args .bytes)) in
+    omega (arith, t .tally .ensures .lengths, lines-few ws (countKind ws 3), asked-are (s .pre), asked-most (s .pre), a .asked-length .ensures)
 
--- src/report.rt:211:9
 returns : tie.Need-returns
-returns c = ?
+returns c =
+    let a = c .before .before in
+    let t = a .before in
+    let s = t .before .before .before .before in
+    let ws = wordsOf (now (s .args .bytes)) in
+    let w = whole-size ws (t .tally .ensures) (asked-are (s .pre)) (a .asked-length .ensures .0) refl in
+    says-short (now (s .args .text)) w (c .if1 .taken)
 
--- src/report.rt:213:5
 put-lines-requires : tie.Need-put-lines-requires
-put-lines-requires c κs = ?
+put-lines-requires c κs =
+    let i = c .before in
+    let a = i .before .before in
+    let t = a .before in
+    let s = t .before .before .before .before in
+    let ws = wordsOf (now (s .args .bytes)) in
+    let w = whole-size ws (t .tally .ensures) (asked-are (s .pre)) (a .asked-length .ensures .0) refl in
+    (s .pre, (t .tally .ensures .answers, omega (arith, w, i .if1 .left)))
 
--- src/report.rt:204:1
 same-length : tie.Need-same-length
 same-length c = search needs
 
--- src/report.rt:204:1
 returns-2 : tie.Need-returns-2
-returns-2 c = ?
+returns-2 c =
+    let q = c .before .before in
+    let i = q .before .before in
+    let a = i .before .before in
+    let t = a .before in
+    let s = t .before .before .before .before in
+    let ws = wordsOf (now (s .args .bytes)) in
+    let w = whole-size ws (t .tally .ensures) (asked-are (s .pre)) (a .asked-length .ensures .0) refl in
+    says-whole (now (s .args .text)) w (i .if1 .left) (q .put-lines .ensures)
 
 pub tell-lines-spec : {M : Type 1} → statement M
 tell-lines-spec =

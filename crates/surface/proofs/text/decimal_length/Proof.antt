@@ -24,14 +24,14 @@ loop-less : tie.Need-loop-less Inv-loop μ-loop
 loop-less c = omega (arith, c .loop-test .taken)
 
 loop-again : tie.Need-loop-again Inv-loop μ-loop
-loop-again c = 
+loop-again c =
     let l = c .before .loop in
     let ten : 10 ≤ l .rest = omega (arith, c .loop-test .taken) in
     let e = decimal-more (l .rest) ten (l .inv .1) in
     (omega (arith, l .inv, e), omega (arith, l .inv))
 
 returns : tie.Need-returns Inv-loop μ-loop
-returns c = 
+returns c =
     let l = c .before .loop in
     let one : l .rest < 10 = omega (arith, c .loop-test .left) in
     let e = decimal-one (l .rest) one in
