@@ -81,12 +81,12 @@ fn tell_refusal(r: Refusal, text: &mut [u8]) -> Copied
     ensures { λ a. ⌜ Says (refusedLine (numberOf r) (placeOf r)) (now (text .entry)) (now (text .exit)) a ⌝ }
 {
     let w = reason_of(r);
-    let wanted = refused_length(w.number, w.place);
-    if text.len() < wanted {
-        return Copied::Refused(Refusal::ShortOutput(wanted));
+    let size = refused_length(w.number, w.place);
+    if text.len() < size {
+        return Copied::Refused(Refusal::ShortOutput(size));
     }
     put_refused(text, 0, w.number, w.place);
-    Copied::Count(wanted)
+    Copied::Count(size)
 }
 
 // ---- the line of a question

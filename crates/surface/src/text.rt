@@ -193,14 +193,14 @@ fn decimal_length(n: usize) -> usize
 }
 
 // What is said of a lane.
-fn lane_length(lane: usize) -> usize
-    requires { ⌜ lane < 2 ^ 32 ⌝ }
-    ensures { λ r. ⌜ (r ≡ length (laneText lane)) × (r ≤ 16) ⌝ }
+fn lane_length(id: usize) -> usize
+    requires { ⌜ id < 2 ^ 32 ⌝ }
+    ensures { λ r. ⌜ (r ≡ length (laneText id)) × (r ≤ 16) ⌝ }
 {
-    if lane == 0 {
+    if id == 0 {
         return 7;
     }
-    6 + decimal_length(lane)
+    6 + decimal_length(id)
 }
 
 // The line of an answer. Its words and floats take 64 bytes.

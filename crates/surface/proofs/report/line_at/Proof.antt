@@ -86,9 +86,10 @@ wide-requires-2 c κs = search needs
 
 returns-2 : tie.Need-returns-2
 returns-2 c =
-    let s = c .before .before .before .before .before .before .before .before .before .before .before .before .before .before .before .before in
+    let far = c .before .before .before .before .before .before .before .before .before in
+    let s = far .before .before .before .before .before .before .before in
     let lane = c .wide2 .ensures in
-    tells-found (s .pre .0) (s .pre .1 .0) (c .before .before .before .before .before .before .before .before .before .before .before .before .if1 .left) (c .before .before .before .before .before .before .before .before .before .before .from-bits32 .ensures) (c .before .before .before .before .before .before .before .before .from-bits322 .ensures) (c .before .before .before .before .before .before .from-bits323 .ensures) (c .before .before .before .before .from-bits324 .ensures) (c .before .before .wide .ensures) (lane .0 ∙ c .before .lane-of .ensures, lane .1)
+    tells-found (s .pre .0) (s .pre .1 .0) (far .before .before .before .if1 .left) (far .before .from-bits32 .ensures) (c .before .before .before .before .before .before .before .before .from-bits322 .ensures) (c .before .before .before .before .before .before .from-bits323 .ensures) (c .before .before .before .before .from-bits324 .ensures) (c .before .before .wide .ensures) (lane .0 ∙ c .before .lane-of .ensures, lane .1)
 
 pub line-at-spec : {M : Type 1} → statement M
 line-at-spec =

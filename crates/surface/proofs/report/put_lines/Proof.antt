@@ -40,16 +40,19 @@ put-line-requires c κs =
     (t .words, omega (arith, k, asked-most (s .pre .0)), line-fits (wordsOf (now (s .args .bytes))) (l .k) t _ (l .inv .0) (omega (arith, k, asked-are (s .pre .0))) (omega (arith, s .pre .1 .1, l .inv .2)))
 
 add-k : tie.Need-add-k Inv-loop μ-loop
-add-k c = omega (arith, c .before .before .before .before .before .loop-test .taken, asked-most (c .before .before .before .before .before .before .before .before .before .before .pre .0))
+add-k c =
+    let far = c .before .before .before .before .before .before .before .before .before in
+    omega (arith, c .before .before .before .before .before .loop-test .taken, asked-most (far .before .pre .0))
 
 loop-less : tie.Need-loop-less Inv-loop μ-loop
 loop-less c = omega (arith, c .before .before .before .before .before .loop-test .taken)
 
 loop-again : tie.Need-loop-again Inv-loop μ-loop
 loop-again c =
+    let far = c .before .before .before .before .before .before .before .before .before in
     let l = c .before .before .before .before .before .before .loop in
     let p = c .before .before .put-line .ensures in
-    (next-line (wordsOf (now (c .before .before .before .before .before .before .before .before .before .before .args .bytes))) (l .k) (c .before .before .before .line-at .ensures) (l .inv .0) p, omega (arith, c .before .before .before .before .before .loop-test .taken), omega (arith, put-length p, l .inv .2))
+    (next-line (wordsOf (now (far .before .args .bytes))) (l .k) (c .before .before .before .line-at .ensures) (l .inv .0) p, omega (arith, c .before .before .before .before .before .loop-test .taken), omega (arith, put-length p, l .inv .2))
 
 put-asked-requires : tie.Need-put-asked-requires Inv-loop μ-loop
 put-asked-requires c κs =
