@@ -10,7 +10,6 @@ use lib.Seq.{take-suc}
 use borrow.Author.Tests.{lt-ltb, le-ltb}
 use Rattle.shape.specs.Memory.{Put}
 use Rattle.shape.specs.Laws.Memory.{put-then}
-use Rattle.surface.specs.Laws.Text.{digits-few}
 use Rattle.surface.specs.Text.{ascii, digit, digitsOf, hexDigit, numbered, laneText}
 
 pub one-put : (m : List ℕ) (at b : ℕ) → Put m (set m at b) at (b ∷ []) (at + 1)
@@ -41,10 +40,6 @@ digits-last m₀ m m′ at q r n ten p s (suc k) h =
     let e : 10 ^ suc (suc k) ≡ 10 ^ suc k * 10 = pow-suc 10 (suc k) in
     let b : n / 10 < 10 ^ suc k = omega arith in
     rw (digits-more k n ten) (put-then (p k b) s)
-
--- where a number ends
-pub digits-end : {m m′ : List ℕ} {at r : ℕ} (k n : ℕ) → Put m m′ at (digitsOf k n) r → r ≤ at + suc k
-digits-end k n p = omega (arith, p .ends, digits-few k n)
 
 -- ---- hexadecimal digits
 

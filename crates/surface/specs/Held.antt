@@ -84,3 +84,12 @@ laneOf ws t = word ws (triangleRecord ws t) 4
 unfoldable pub questionAt : List ℕ → ℕ → Question
 unfolding questionRecord singleIn
 questionAt ws k = record { x = singleIn ws (questionRecord ws k) 1; y = singleIn ws (questionRecord ws k) 2 }
+
+-- where all questions ask, in pairs
+unfoldable pub pointIn : List ℕ → ℕ → List Float
+unfolding questionAt
+pointIn ws k = questionAt ws k .x ∷ questionAt ws k .y ∷ []
+
+unfoldable pub pointsOf : List ℕ → List Float
+unfolding gather pointIn countKind
+pointsOf ws = gather (pointIn ws) (countKind ws 3)

@@ -34,7 +34,7 @@ fn join(a: u8, b: u8, c: u8, d: u8) -> u32
 }
 
 // Word i of the bytes.
-fn word_at(bytes: &[u8], i: usize) -> u32
+pub(crate) fn word_at(bytes: &[u8], i: usize) -> u32
     requires { ⌜ 4 * i + 4 ≤ length (now bytes) ⌝ }
     ensures { λ r. ⌜ r ≡ wordAt (now (bytes .entry)) i ⌝ }
 {

@@ -1,4 +1,4 @@
-// The mesh and the questions that held words stand for.
+// The mesh and the questions that a file stands for, read straight from its bytes.
 ghost use mathlib.Core.Path.{_≡_};
 ghost use mathlib.Core.Bool.{cond};
 ghost use Prim.Native.Nat.{_+_, _*_, _/_, _^_, _≤_, _<_};
@@ -6,9 +6,10 @@ ghost use mathlib.Core.List.{[], _∷_};
 ghost use lib.ListN.{length};
 ghost use Rattle.shape.specs.Memory.{Put};
 ghost use Rattle.shape.specs.Lists.{wordOf};
-ghost use Rattle.surface.specs.Held.{countKind, sizesOf, singleIn, verticesOf, normalsOf, indicesOf, laneOf, questionAt};
+ghost use Rattle.surface.specs.File.{wordsOf};
+ghost use Rattle.surface.specs.Held.{countKind, sizesOf, singleIn, verticesOf, normalsOf, indicesOf, laneOf, questionAt, pointsOf};
+use crate::file::word_at;
 use rounding::bits::from_bits32;
-use shape::lists::record_word;
 
 // How many records of each kind there are.
 pub struct Sizes {
@@ -25,20 +26,24 @@ pub struct Question {
 
 // ---- records
 
-// Word j of record k.
-fn word(held: &[u32], k: usize, j: usize) -> u32
+// Word j of record k, 0 past the end.
+fn word(bytes: &[u8], k: usize, j: usize) -> u32
     requires { ⌜ (k < 2 ^ 40) × (j < 8) ⌝ }
-    ensures { λ r. ⌜ r ≡ wordOf 8 (now (held .entry)) k j ⌝ }
+    ensures { λ r. ⌜ r ≡ wordOf 8 (wordsOf (now (bytes .entry))) k j ⌝ }
 {
-    record_word(held, 8, k, j) as u32
+    let i = 8 * k + j;
+    if i < bytes.len() / 4 {
+        return word_at(bytes, i);
+    }
+    0
 }
 
 // The single in word j of record k.
-fn single(held: &[u32], k: usize, j: usize) -> f32
+fn single(bytes: &[u8], k: usize, j: usize) -> f32
     requires { ⌜ (k < 2 ^ 40) × (j < 8) ⌝ }
-    ensures { λ r. ⌜ r ≡ singleIn (now (held .entry)) k j ⌝ }
+    ensures { λ r. ⌜ r ≡ singleIn (wordsOf (now (bytes .entry))) k j ⌝ }
 {
-    from_bits32(word(held, k, j))
+    from_bits32(word(bytes, k, j))
 }
 
 fn one_if(b: bool) -> usize
@@ -48,95 +53,96 @@ fn one_if(b: bool) -> usize
 }
 
 // How many records are of this kind.
-fn count_kind(held: &[u32], kind: u32) -> usize
-    requires { ⌜ length (now held) ≤ 16384 ⌝ }
-    ensures { λ r. ⌜ r ≡ countKind (now (held .entry)) kind ⌝ }
+fn count_kind(bytes: &[u8], kind: u32) -> usize
+    requires { ⌜ length (wordsOf (now bytes)) ≤ 16384 ⌝ }
+    ensures { λ r. ⌜ r ≡ countKind (wordsOf (now (bytes .entry))) kind ⌝ }
 {
-    let n = held.len() / 8;
+    let n = bytes.len() / 32;
     let mut found: usize = 0;
     let mut k: usize = 0;
     while k < n {
-        found += one_if(word(held, k, 0) == kind);
+        found += one_if(word(bytes, k, 0) == kind);
         k += 1;
     }
     found
 }
 
 // How many vertices, triangles and questions there are.
-pub fn counts(held: &[u32]) -> Sizes
-    requires { ⌜ length (now held) ≤ 16384 ⌝ }
-    ensures { λ r. ⌜ r ≡ sizesOf (now (held .entry)) ⌝ }
+pub fn counts(bytes: &[u8]) -> Sizes
+    requires { ⌜ length (wordsOf (now bytes)) ≤ 16384 ⌝ }
+    ensures { λ r. ⌜ r ≡ sizesOf (wordsOf (now (bytes .entry))) ⌝ }
+    ensures { λ r. ⌜ (r .vertices ≤ 2048) × (r .triangles ≤ 2048) × (r .questions ≤ 2048) ⌝ }
 {
     Sizes {
-        vertices: count_kind(held, 1),
-        triangles: count_kind(held, 2),
-        questions: count_kind(held, 3),
+        vertices: count_kind(bytes, 1),
+        triangles: count_kind(bytes, 2),
+        questions: count_kind(bytes, 3),
     }
 }
 
 // ---- the lists of the mesh
 
 // Three singles from word j of record k on, from `at` of `out` on.
-fn put_singles(held: &[u32], k: usize, j: usize, out: &mut [f32], at: usize) -> usize
+fn put_singles(bytes: &[u8], k: usize, j: usize, out: &mut [f32], at: usize) -> usize
     requires { ⌜ (k < 2 ^ 40) × (j < 6) × (at + 3 ≤ length (now out)) ⌝ }
-    ensures { λ r. ⌜ Put (now (out .entry)) (now (out .exit)) at (singleIn (now (held .entry)) k j ∷ singleIn (now (held .entry)) k (j + 1) ∷ singleIn (now (held .entry)) k (j + 2) ∷ []) r ⌝ }
+    ensures { λ r. ⌜ Put (now (out .entry)) (now (out .exit)) at (singleIn (wordsOf (now (bytes .entry))) k j ∷ singleIn (wordsOf (now (bytes .entry))) k (j + 1) ∷ singleIn (wordsOf (now (bytes .entry))) k (j + 2) ∷ []) r ⌝ }
 {
-    out[at] = single(held, k, j);
-    out[at + 1] = single(held, k, j + 1);
-    out[at + 2] = single(held, k, j + 2);
+    out[at] = single(bytes, k, j);
+    out[at + 1] = single(bytes, k, j + 1);
+    out[at + 2] = single(bytes, k, j + 2);
     at + 3
 }
 
 // The places of all vertices, to the front of `out`.
-pub fn unpack_vertices(held: &[u32], sizes: Sizes, out: &mut [f32])
-    requires { ⌜ (length (now held) ≤ 16384) × (sizes ≡ sizesOf (now held)) × (3 * sizes .vertices ≤ length (now out)) ⌝ }
-    ensures { λ r. ⌜ Put (now (out .entry)) (now (out .exit)) 0 (verticesOf (now (held .entry))) (3 * sizes .vertices) ⌝ }
+pub fn unpack_vertices(bytes: &[u8], sizes: Sizes, out: &mut [f32])
+    requires { ⌜ (length (wordsOf (now bytes)) ≤ 16384) × (sizes ≡ sizesOf (wordsOf (now bytes))) × (3 * sizes .vertices ≤ length (now out)) ⌝ }
+    ensures { λ r. ⌜ Put (now (out .entry)) (now (out .exit)) 0 (verticesOf (wordsOf (now (bytes .entry)))) (3 * sizes .vertices) ⌝ }
 {
     let n = sizes.vertices;
     let mut at: usize = 0;
     let mut k: usize = 0;
     while k < n {
-        at = put_singles(held, k, 1, out, at);
+        at = put_singles(bytes, k, 1, out, at);
         k += 1;
     }
 }
 
 // The normals of all vertices, to the front of `out`.
-pub fn unpack_normals(held: &[u32], sizes: Sizes, out: &mut [f32])
-    requires { ⌜ (length (now held) ≤ 16384) × (sizes ≡ sizesOf (now held)) × (3 * sizes .vertices ≤ length (now out)) ⌝ }
-    ensures { λ r. ⌜ Put (now (out .entry)) (now (out .exit)) 0 (normalsOf (now (held .entry))) (3 * sizes .vertices) ⌝ }
+pub fn unpack_normals(bytes: &[u8], sizes: Sizes, out: &mut [f32])
+    requires { ⌜ (length (wordsOf (now bytes)) ≤ 16384) × (sizes ≡ sizesOf (wordsOf (now bytes))) × (3 * sizes .vertices ≤ length (now out)) ⌝ }
+    ensures { λ r. ⌜ Put (now (out .entry)) (now (out .exit)) 0 (normalsOf (wordsOf (now (bytes .entry)))) (3 * sizes .vertices) ⌝ }
 {
     let n = sizes.vertices;
     let mut at: usize = 0;
     let mut k: usize = 0;
     while k < n {
-        at = put_singles(held, k, 4, out, at);
+        at = put_singles(bytes, k, 4, out, at);
         k += 1;
     }
 }
 
 // The corners of record k, from `at` of `out` on.
-fn put_corners(held: &[u32], k: usize, out: &mut [u32], at: usize) -> usize
+fn put_corners(bytes: &[u8], k: usize, out: &mut [u32], at: usize) -> usize
     requires { ⌜ (k < 2 ^ 40) × (at + 3 ≤ length (now out)) ⌝ }
-    ensures { λ r. ⌜ Put (now (out .entry)) (now (out .exit)) at (wordOf 8 (now (held .entry)) k 1 ∷ wordOf 8 (now (held .entry)) k 2 ∷ wordOf 8 (now (held .entry)) k 3 ∷ []) r ⌝ }
+    ensures { λ r. ⌜ Put (now (out .entry)) (now (out .exit)) at (wordOf 8 (wordsOf (now (bytes .entry))) k 1 ∷ wordOf 8 (wordsOf (now (bytes .entry))) k 2 ∷ wordOf 8 (wordsOf (now (bytes .entry))) k 3 ∷ []) r ⌝ }
 {
-    out[at] = word(held, k, 1);
-    out[at + 1] = word(held, k, 2);
-    out[at + 2] = word(held, k, 3);
+    out[at] = word(bytes, k, 1);
+    out[at + 1] = word(bytes, k, 2);
+    out[at + 2] = word(bytes, k, 3);
     at + 3
 }
 
 // The corners of all triangles, to the front of `out`.
-pub fn unpack_indices(held: &[u32], sizes: Sizes, out: &mut [u32])
-    requires { ⌜ (length (now held) ≤ 16384) × (sizes ≡ sizesOf (now held)) × (3 * sizes .triangles ≤ length (now out)) ⌝ }
-    ensures { λ r. ⌜ Put (now (out .entry)) (now (out .exit)) 0 (indicesOf (now (held .entry))) (3 * sizes .triangles) ⌝ }
+pub fn unpack_indices(bytes: &[u8], sizes: Sizes, out: &mut [u32])
+    requires { ⌜ (length (wordsOf (now bytes)) ≤ 16384) × (sizes ≡ sizesOf (wordsOf (now bytes))) × (3 * sizes .triangles ≤ length (now out)) ⌝ }
+    ensures { λ r. ⌜ Put (now (out .entry)) (now (out .exit)) 0 (indicesOf (wordsOf (now (bytes .entry)))) (3 * sizes .triangles) ⌝ }
 {
     let first = sizes.vertices;
     let n = sizes.triangles;
     let mut at: usize = 0;
     let mut t: usize = 0;
     while t < n {
-        at = put_corners(held, first + t, out, at);
+        at = put_corners(bytes, first + t, out, at);
         t += 1;
     }
 }
@@ -144,21 +150,44 @@ pub fn unpack_indices(held: &[u32], sizes: Sizes, out: &mut [u32])
 // ---- lanes and questions
 
 // The lane id of triangle t, 0 for none.
-pub fn lane_of(held: &[u32], sizes: Sizes, t: usize) -> u32
-    requires { ⌜ (length (now held) ≤ 16384) × (sizes ≡ sizesOf (now held)) × (t < 2 ^ 32) ⌝ }
-    ensures { λ r. ⌜ r ≡ laneOf (now (held .entry)) t ⌝ }
+pub fn lane_of(bytes: &[u8], sizes: Sizes, t: usize) -> u32
+    requires { ⌜ (length (wordsOf (now bytes)) ≤ 16384) × (sizes ≡ sizesOf (wordsOf (now bytes))) × (t < 2 ^ 32) ⌝ }
+    ensures { λ r. ⌜ r ≡ laneOf (wordsOf (now (bytes .entry))) t ⌝ }
 {
-    word(held, sizes.vertices + t, 4)
+    word(bytes, sizes.vertices + t, 4)
 }
 
 // Where question k asks.
-pub fn question_at(held: &[u32], sizes: Sizes, k: usize) -> Question
-    requires { ⌜ (length (now held) ≤ 16384) × (sizes ≡ sizesOf (now held)) × (k < 2 ^ 32) ⌝ }
-    ensures { λ r. ⌜ r ≡ questionAt (now (held .entry)) k ⌝ }
+pub fn question_at(bytes: &[u8], sizes: Sizes, k: usize) -> Question
+    requires { ⌜ (length (wordsOf (now bytes)) ≤ 16384) × (sizes ≡ sizesOf (wordsOf (now bytes))) × (k < 2 ^ 32) ⌝ }
+    ensures { λ r. ⌜ r ≡ questionAt (wordsOf (now (bytes .entry))) k ⌝ }
 {
     let record = sizes.vertices + sizes.triangles + k;
     Question {
-        x: single(held, record, 1),
-        y: single(held, record, 2),
+        x: single(bytes, record, 1),
+        y: single(bytes, record, 2),
+    }
+}
+
+fn put_point(out: &mut [f32], at: usize, q: Question) -> usize
+    requires { ⌜ at + 2 ≤ length (now out) ⌝ }
+    ensures { λ r. ⌜ Put (now (out .entry)) (now (out .exit)) at (q .x ∷ q .y ∷ []) r ⌝ }
+{
+    out[at] = q.x;
+    out[at + 1] = q.y;
+    at + 2
+}
+
+// The points of all questions, in pairs, to the front of `out`.
+pub fn unpack_points(bytes: &[u8], sizes: Sizes, out: &mut [f32])
+    requires { ⌜ (length (wordsOf (now bytes)) ≤ 16384) × (sizes ≡ sizesOf (wordsOf (now bytes))) × (2 * sizes .questions ≤ length (now out)) ⌝ }
+    ensures { λ r. ⌜ Put (now (out .entry)) (now (out .exit)) 0 (pointsOf (wordsOf (now (bytes .entry)))) (2 * sizes .questions) ⌝ }
+{
+    let n = sizes.questions;
+    let mut at: usize = 0;
+    let mut k: usize = 0;
+    while k < n {
+        at = put_point(out, at, question_at(bytes, sizes, k));
+        k += 1;
     }
 }

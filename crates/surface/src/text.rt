@@ -35,7 +35,7 @@ fn put_digit(out: &mut [u8], at: usize, d: usize) -> usize
 // A number in decimal, with no leading zero: what comes before its last digit, if anything does, and
 // that digit.
 fn put_decimal(out: &mut [u8], at: usize, n: usize) -> usize
-    requires { ⌜ (at + 10 ≤ length (now out)) × (n < 10 ^ 10) ⌝ }
+    requires { ⌜ (at + length (decimal n) ≤ length (now out)) × (n < 10 ^ 10) ⌝ }
     ensures { λ r. ⌜ ((k : ℕ) → n < 10 ^ suc k → Put (now (out .entry)) (now (out .exit)) at (digitsOf k n) r) ⌝ }
 {
     if n < 10 {
@@ -75,9 +75,9 @@ fn put_hexadecimal(out: &mut [u8], at: usize, w: u32) -> usize
 // ---- a word and what comes after it
 
 fn put_number(out: &mut [u8], at: usize, word: &[u8], n: usize) -> usize
-    requires { ⌜ (at + length (now word) + 10 ≤ length (now out)) × (n < 2 ^ 32) ⌝ }
+    requires { ⌜ (at + length (now word) + length (decimal n) ≤ length (now out)) × (n < 2 ^ 32) ⌝ }
     ensures { λ r. ⌜ Put (now (out .entry)) (now (out .exit)) at (now (word .entry) ++ decimal n) r ⌝ }
-    ensures { λ r. ⌜ r ≤ at + length (now (word .entry)) + 10 ⌝ }
+    ensures { λ r. ⌜ r ≡ at + length (now (word .entry)) + length (decimal n) ⌝ }
 {
     let next = put_bytes(out, at, word);
     put_decimal(out, next, n)
@@ -105,9 +105,8 @@ fn put_normal(out: &mut [u8], at: usize, n: Vector) -> usize
 
 // A lane by its id, 0 for none.
 fn put_lane(out: &mut [u8], at: usize, lane: usize) -> usize
-    requires { ⌜ (at + 16 ≤ length (now out)) × (lane < 2 ^ 32) ⌝ }
+    requires { ⌜ (at + length (laneText lane) ≤ length (now out)) × (lane < 2 ^ 32) ⌝ }
     ensures { λ r. ⌜ Put (now (out .entry)) (now (out .exit)) at (laneText lane) r ⌝ }
-    ensures { λ r. ⌜ r ≤ at + 16 ⌝ }
 {
     if lane == 0 {
         return put_bytes(out, at, b" lane -");
@@ -127,9 +126,9 @@ pub fn put_found(
     triangle: usize,
     lane: usize,
 ) -> usize
-    requires { ⌜ (at + 100 ≤ length (now out)) × (k < 2 ^ 32) × (triangle < 2 ^ 32) × (lane < 2 ^ 32) ⌝ }
+    requires { ⌜ (k < 2 ^ 32) × (triangle < 2 ^ 32) × (lane < 2 ^ 32) ⌝ }
+    requires { ⌜ at + 64 + length (decimal k) + length (decimal triangle) + length (laneText lane) ≤ length (now out) ⌝ }
     ensures { λ r. ⌜ Put (now (out .entry)) (now (out .exit)) at (foundLine k height normal triangle lane) r ⌝ }
-    ensures { λ r. ⌜ r ≤ at + 100 ⌝ }
 {
     let at = put_number(out, at, b"at ", k);
     let at = put_float(out, at, b" height ", height);
@@ -141,9 +140,8 @@ pub fn put_found(
 
 // That question k has no answer.
 pub fn put_none(out: &mut [u8], at: usize, k: usize) -> usize
-    requires { ⌜ (at + 100 ≤ length (now out)) × (k < 2 ^ 32) ⌝ }
+    requires { ⌜ (at + 9 + length (decimal k) ≤ length (now out)) × (k < 2 ^ 32) ⌝ }
     ensures { λ r. ⌜ Put (now (out .entry)) (now (out .exit)) at (noneLine k) r ⌝ }
-    ensures { λ r. ⌜ r ≤ at + 100 ⌝ }
 {
     let at = put_number(out, at, b"at ", k);
     put_bytes(out, at, b" none\n")
@@ -151,7 +149,8 @@ pub fn put_none(out: &mut [u8], at: usize, k: usize) -> usize
 
 // A line of two words, each with a number.
 fn put_pair(out: &mut [u8], at: usize, first: &[u8], n: usize, second: &[u8], m: usize) -> usize
-    requires { ⌜ (at + length (now first) + length (now second) + 21 ≤ length (now out)) × (n < 2 ^ 32) × (m < 2 ^ 32) ⌝ }
+    requires { ⌜ (n < 2 ^ 32) × (m < 2 ^ 32) ⌝ }
+    requires { ⌜ at + length (now first) + length (decimal n) + length (now second) + length (decimal m) + 1 ≤ length (now out) ⌝ }
     ensures { λ r. ⌜ Put (now (out .entry)) (now (out .exit)) at ((now (first .entry) ++ decimal n) ++ (now (second .entry) ++ decimal m) ++ 10 ∷ []) r ⌝ }
 {
     let at = put_number(out, at, first, n);
@@ -161,7 +160,8 @@ fn put_pair(out: &mut [u8], at: usize, first: &[u8], n: usize, second: &[u8], m:
 
 // The last line.
 pub fn put_asked(out: &mut [u8], at: usize, asked: usize, found: usize) -> usize
-    requires { ⌜ (at + 34 ≤ length (now out)) × (asked < 2 ^ 32) × (found < 2 ^ 32) ⌝ }
+    requires { ⌜ (asked < 2 ^ 32) × (found < 2 ^ 32) ⌝ }
+    requires { ⌜ at + 14 + length (decimal asked) + length (decimal found) ≤ length (now out) ⌝ }
     ensures { λ r. ⌜ Put (now (out .entry)) (now (out .exit)) at (askedLine asked found) r ⌝ }
 {
     put_pair(out, at, b"asked ", asked, b" found ", found)
@@ -169,8 +169,68 @@ pub fn put_asked(out: &mut [u8], at: usize, asked: usize, found: usize) -> usize
 
 // A refusal, by its number and place.
 pub fn put_refused(out: &mut [u8], at: usize, number: usize, place: usize) -> usize
-    requires { ⌜ (at + 34 ≤ length (now out)) × (number < 2 ^ 32) × (place < 2 ^ 32) ⌝ }
+    requires { ⌜ (number < 2 ^ 32) × (place < 2 ^ 32) ⌝ }
+    requires { ⌜ at + 13 + length (decimal number) + length (decimal place) ≤ length (now out) ⌝ }
     ensures { λ r. ⌜ Put (now (out .entry)) (now (out .exit)) at (refusedLine number place) r ⌝ }
 {
     put_pair(out, at, b"refused ", number, b" at ", place)
+}
+
+// ---- how long they are
+
+// A number in decimal.
+fn decimal_length(n: usize) -> usize
+    requires { ⌜ n < 10 ^ 10 ⌝ }
+    ensures { λ r. ⌜ (r ≡ length (decimal n)) × (r ≤ 10) ⌝ }
+{
+    let mut rest = n;
+    let mut count: usize = 1;
+    while 9 < rest {
+        rest = rest / 10;
+        count += 1;
+    }
+    count
+}
+
+// What is said of a lane.
+fn lane_length(id: usize) -> usize
+    requires { ⌜ id < 2 ^ 32 ⌝ }
+    ensures { λ r. ⌜ (r ≡ length (laneText id)) × (r ≤ 16) ⌝ }
+{
+    if id == 0 {
+        return 7;
+    }
+    6 + decimal_length(id)
+}
+
+// The line of an answer. Its words and floats take 64 bytes.
+pub fn found_length(k: usize, triangle: usize, lane: usize) -> usize
+    requires { ⌜ (k < 2 ^ 32) × (triangle < 2 ^ 32) × (lane < 2 ^ 32) ⌝ }
+    ensures { λ r. ⌜ (r ≡ 64 + length (decimal k) + length (decimal triangle) + length (laneText lane)) × (r ≤ 100) ⌝ }
+{
+    64 + decimal_length(k) + decimal_length(triangle) + lane_length(lane)
+}
+
+// The line that there is none.
+pub fn none_length(k: usize) -> usize
+    requires { ⌜ k < 2 ^ 32 ⌝ }
+    ensures { λ r. ⌜ (r ≡ 9 + length (decimal k)) × (r ≤ 100) ⌝ }
+{
+    9 + decimal_length(k)
+}
+
+// The last line.
+pub fn asked_length(asked: usize, found: usize) -> usize
+    requires { ⌜ (asked < 2 ^ 32) × (found < 2 ^ 32) ⌝ }
+    ensures { λ r. ⌜ (r ≡ 14 + length (decimal asked) + length (decimal found)) × (r ≤ 34) ⌝ }
+{
+    14 + decimal_length(asked) + decimal_length(found)
+}
+
+// A refusal.
+pub fn refused_length(number: usize, place: usize) -> usize
+    requires { ⌜ (number < 2 ^ 32) × (place < 2 ^ 32) ⌝ }
+    ensures { λ r. ⌜ (r ≡ 13 + length (decimal number) + length (decimal place)) × (r ≤ 33) ⌝ }
+{
+    13 + decimal_length(number) + decimal_length(place)
 }

@@ -11,6 +11,7 @@ use lib.Dec.{ltb}
 use lib.ListN.{length, getD, take, drop, length-take, length-drop, List·getD-eq-default}
 use lib.Seq.{ext-getD, getD-take, getD-drop}
 use Rattle.shape.specs.Gather.{gather, least}
+use Rattle.shape.specs.Lists.{wordOf}
 use Rattle.shape.specs.Refusal.{Fault, fine, fault, refuse, Answer, taken, judge}
 use Rattle.shape.specs.Laws.Gather.{gather-even, gather-at, or-left}
 use Rattle.surface.specs.File.{wordAt, wordsOf, fourBytes, bytesOf, badRecord, badAt, recordFault, parts, heldRecord, fileRecord, heldFault, fileFault, copyOf, readOf, writeOf}
@@ -68,6 +69,15 @@ bytes-at ws i j h p =
     let e : length (gather f i) ≡ 4 * i = gather-even f 4 (λ j. refl) i in
     let q : j < length (f i) = p in
     rw e at (gather-at f (length ws) i j 0 h q)
+
+-- word j of record k, which is 0 past the end
+pub word-here : (bs : List ℕ) (k j : ℕ) {r : ℕ} → 8 * k + j < length bs / 4 → r ≡ wordAt bs (8 * k + j) → r ≡ wordOf 8 (wordsOf bs) k j
+unfolding wordOf
+word-here bs k j h e = e ∙ sym (words-at bs (8 * k + j) h)
+
+pub word-past : (bs : List ℕ) (k j : ℕ) → length bs / 4 ≤ 8 * k + j → 0 ≡ wordOf 8 (wordsOf bs) k j
+unfolding wordOf
+word-past bs k j h = let l : length (wordsOf bs) ≤ 8 * k + j = omega (arith, words-length bs) in sym (List·getD-eq-default (wordsOf bs) 0 l)
 
 -- a word of the bytes of words
 pub word-of-bytes : (ws : List ℕ) (i : ℕ) → i < length ws → getD ws i 0 < 2 ^ 32 → wordAt (bytesOf ws) i ≡ getD ws i 0

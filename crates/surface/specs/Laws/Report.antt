@@ -1,27 +1,31 @@
 -- The text of a file has a bound, its mesh is always in order, and no lookup that it is made of is turned back. Assumes nothing.
-use mathlib.Core.Path.{_≡_, refl, sym, _∙_}
+use mathlib.Core.Path.{_≡_, refl, sym, ap, _∙_}
 use mathlib.Core.Bool.{Bool, true, false}
 use mathlib.Core.List.{List}
-use Prim.Native.Nat.{ℕ, _*_, _/_, _%_, _≤_}
+use Prim.Native.Nat.{ℕ, zero, suc, _+_, _*_, _/_, _%_, _≤_, _<_}
+use native.Mathlib.Nat.{add-zero}
 use native.Mathlib.Omega.{arith}
 use borrow.Author.Tests.{ltb-false, le-ltb, eq-eqb}
 use lib.Dec.{ltb}
-use lib.Ieee.{Float}
-use lib.ListN.{length, take, drop, replicate, length-append, length-replicate}
+use lib.Ieee.{Float, nan}
+use lib.ListN.{length, getD, take, drop, replicate, length-append, length-replicate}
 use lib.Seq.{take-append-seam}
 use Rattle.shape.specs.Gather.{gather, any}
 use Rattle.shape.specs.Lists.{longer, uneven, meshFault}
 use Rattle.shape.specs.Refusal.{Fault, fine, fault, refuse, Answer, taken, refused, judge, leaves}
-use Rattle.shape.specs.Laws.Gather.{gather-most}
+use Rattle.shape.specs.Laws.Gather.{gather-most, gather-even, gather-at}
 use Rattle.lookup.specs.Index.{candidatesOf, buildOf, roomFault, answerTo}
 use Rattle.lookup.specs.Demand3.{BuiltFrom}
-use Rattle.lookup.specs.Sampler.{Sample, hit, miss, sampleIn, topOf}
+use Rattle.lookup.specs.Sampler.{Sample, hit, miss, sampleIn, topFault, topOf}
+use Rattle.lookup.specs.Batch.{recordOf, recordAt, recordsOf, pointsFault, topsOf}
+use Rattle.lookup.specs.Laws.Limits.{judged}
 use Rattle.lookup.specs.Laws.Demand3.{top-taken, words-fit}
 use Rattle.surface.specs.declared.file.Copied.{Copied}
 use Rattle.surface.specs.declared.file.Copied.the-variants.{Count}
 use Rattle.surface.specs.File.{wordsOf, fileFault, copyOf, readCopied}
-use Rattle.surface.specs.Held.{howMany, isKind, countKind, verticesOf, normalsOf, indicesOf, laneOf}
-use Rattle.surface.specs.Report.{meshIn, indexIn, sampleAt, lineOf, lineAt, answeredAt, linesOf, orRefused, reportOf, reportAnswer}
+use Rattle.surface.specs.Held.{howMany, isKind, countKind, verticesOf, normalsOf, indicesOf, laneOf, questionAt, pointIn, pointsOf}
+use Rattle.surface.specs.Report.{meshIn, indexIn, given, sampleAt, lineOf, lineAt, answeredAt, linesOf, orRefused, reportOf, reportAnswer}
+use Rattle.surface.specs.ReportSteps.{recordIn, recordsIn}
 use Rattle.surface.specs.Laws.File.{words-length, whole-file, copied}
 use Rattle.surface.specs.Laws.Held.{howMany-le, vertices-length, normals-length, indices-length}
 use Rattle.surface.specs.Laws.Text.{found-few, none-few, asked-few, refused-few}
@@ -95,6 +99,34 @@ module _ (ws : List ℕ) where
   unfolding buildOf judge meshIn indexIn
   build-fine h = rw (mesh-fine h)
 
+-- ---- the questions
+
+module _ (ws : List ℕ) where
+  pub points-length : length (pointsOf ws) ≡ 2 * countKind ws 3
+  unfolding pointsOf pointIn
+  points-length = gather-even (pointIn ws) 2 (λ i. refl) (countKind ws 3)
+
+  module _ (k : ℕ) (h : k < countKind ws 3) where
+    point-at : (j : ℕ) → j < 2 → getD (pointsOf ws) (2 * k + j) nan ≡ getD (pointIn ws k) j nan
+    unfolding pointsOf pointIn
+    point-at j l =
+        let e : length (gather (pointIn ws) k) ≡ 2 * k = gather-even (pointIn ws) 2 (λ i. refl) k in
+        rw e at (gather-at (pointIn ws) (countKind ws 3) k j nan h l)
+
+    pub point-x : getD (pointsOf ws) (2 * k) nan ≡ questionAt ws k .x
+    unfolding pointIn
+    point-x = ap (λ (i : ℕ). getD (pointsOf ws) i nan) (sym (add-zero (2 * k))) ∙ point-at 0 (omega arith)
+
+    pub point-y : getD (pointsOf ws) (2 * k + 1) nan ≡ questionAt ws k .y
+    unfolding pointIn
+    point-y = point-at 1 (omega arith)
+
+-- the same is gathered where each gives the same
+gather-within : (f g : ℕ → List ℕ) (n : ℕ) → ((k : ℕ) → k < n → f k ≡ g k) → gather f n ≡ gather g n
+unfolding gather
+gather-within f g zero h = refl
+gather-within f g (suc n) h = rw (gather-within f g n (λ k l. h k (omega arith)), h n (omega arith))
+
 -- ---- the lookups
 
 module _ (k : ℕ) where
@@ -144,3 +176,31 @@ module _ (ws : List ℕ) (few : length ws ≤ 16384) {n : ℕ} (t : buildOf (mes
       let e = length-replicate {A = ℕ} 16384 0 in
       let b = built-from o e in
       top-taken (meshIn ws) (indexIn ws) b x y (words-fit (meshIn ws) (indexIn ws) b (whole o e))
+
+  -- "all questions by one call": it is taken, whatever the lookup judges of the index, which was built from the mesh
+  pub all-taken : topsOf (meshIn ws) (indexIn ws) (pointsOf ws) 16384 ≡ taken (countKind ws 3)
+  unfolding topsOf pointsFault refuse uneven judge topOf
+  all-taken =
+      let x = nan in
+      let f = judged (topFault (meshIn ws) (indexIn ws)) _ _ (never-refused x x) .0 in
+      let k = countKind ws 3 in
+      let n = length (pointsOf ws) in
+      let even : n % 2 ≡ 0 = omega (arith, points-length ws) in
+      let half : n / 2 ≡ k = omega (arith, points-length ws) in
+      let room : 8 * k ≤ 16384 = omega (arith, kind-most ws 3 few) in
+      rw (f, eq-eqb (n % 2) 0 even, half, le-ltb 16384 (8 * k) room)
+
+  -- and it leaves the records of the questions' answers
+  record-is : (k : ℕ) → k < countKind ws 3 → recordAt (meshIn ws) (indexIn ws) (pointsOf ws) k ≡ recordIn ws k
+  unfolding recordAt recordIn sampleAt given
+  record-is k h =
+      rw (point-x ws k h, point-y ws k h) (given-is _ _ (never-refused (questionAt ws k .x) (questionAt ws k .y)))
+    where
+      given-is : (a : Answer Sample) (s : Sample) → a ≡ taken s → recordOf a ≡ recordOf (taken (given a))
+      given-is a s e = rw e
+
+  pub records-are : recordsOf (meshIn ws) (indexIn ws) (pointsOf ws) ≡ recordsIn ws
+  unfolding recordsOf recordsIn
+  records-are =
+      let half : length (pointsOf ws) / 2 ≡ countKind ws 3 = omega (arith, points-length ws) in
+      rw half (gather-within (recordAt (meshIn ws) (indexIn ws) (pointsOf ws)) (recordIn ws) (countKind ws 3) record-is)

@@ -1,9 +1,11 @@
--- How long a line can be. Assumes nothing.
-use mathlib.Core.Path.{_≡_, refl}
+-- How long a line is, and can be. Assumes nothing.
+use mathlib.Core.Path.{_≡_, refl, ap, _∙_}
 use mathlib.Core.Bool.{Bool, true, false, cond}
-use mathlib.Core.List.{[], _∷_, _++_}
-use Prim.Native.Nat.{ℕ, zero, suc, _/_, _%_, _≤_}
+use mathlib.Core.List.{List, [], _∷_, _++_}
+use Prim.Native.Nat.{ℕ, zero, suc, _+_, _*_, _/_, _%_, _^_, _≤_, _<_}
 use native.Mathlib.Omega.{arith}
+use native.Mathlib.Nat.{pow-suc}
+use borrow.Author.Tests.{lt-ltb, le-ltb}
 use lib.Dec.{ltb}
 use lib.Ieee.{Float}
 use lib.ListN.{length, length-append}
@@ -47,3 +49,58 @@ asked-few n m = simp length-append (omega (arith, digits-few 9 n, digits-few 9 m
 pub refused-few : (n p : ℕ) → length (refusedLine n p) ≤ 34
 unfolding refusedLine
 refused-few n p = simp length-append (omega (arith, digits-few 9 n, digits-few 9 p))
+
+-- ---- how long they are
+
+-- a number that has room in k digits is the same in one more
+digits-same : (k n : ℕ) → n < 10 ^ suc k → digitsOf (suc k) n ≡ digitsOf k n
+unfolding digitsOf
+digits-same zero n h = let e : 10 ^ suc zero ≡ 10 = refl in rw (lt-ltb n 10 (omega arith))
+digits-same (suc k) n h =
+    let e : 10 ^ suc (suc k) ≡ 10 ^ suc k * 10 = pow-suc 10 (suc k) in
+    let b : n / 10 < 10 ^ suc k = omega arith in
+    ap (λ (xs : List ℕ). cond (ltb n 10) (digit n ∷ []) (xs ++ digit (n % 10) ∷ [])) (digits-same k (n / 10) b)
+
+-- the length of a number in decimal: one digit, and one more than without the last
+pub decimal-one : (n : ℕ) → n < 10 → length (digitsOf 9 n) ≡ 1
+unfolding digitsOf
+decimal-one n h = rw (lt-ltb n 10 h)
+
+last : (n : ℕ) → 10 ≤ n → length (digitsOf 9 n) ≡ length (digitsOf 8 (n / 10)) + 1
+unfolding digitsOf
+last n h = rw (le-ltb n 10 h) (rw length-append)
+
+pub decimal-more : (n : ℕ) → 10 ≤ n → n < 10 ^ 10 → length (digitsOf 9 n) ≡ length (digitsOf 9 (n / 10)) + 1
+decimal-more n h l =
+    let b : n / 10 < 10 ^ 9 = omega arith in
+    rw (digits-same 8 (n / 10) b) (last n h)
+
+pub lane-none-size : (lane : ℕ) → lane ≡ 0 → length (laneText lane) ≡ 7
+unfolding laneText
+lane-none-size zero e = refl
+lane-none-size (suc n) e = absurd (omega arith)
+
+pub lane-some-size : (lane : ℕ) → (lane ≡ 0 → ⊥) → length (laneText lane) ≡ 6 + length (digitsOf 9 lane)
+unfolding laneText
+lane-some-size zero e = absurd (e refl)
+lane-some-size (suc n) e = omega arith
+
+normal-size : (n : Vector) → length (normalText n) ≡ 34
+unfolding normalText hexadecimal
+normal-size n = refl
+
+pub found-size : (k : ℕ) (h : Float) (n : Vector) (t lane : ℕ) → length (foundLine k h n t lane) ≡ 64 + length (digitsOf 9 k) + length (digitsOf 9 t) + length (laneText lane)
+unfolding foundLine hexadecimal
+found-size k h n t lane = simp length-append (omega (arith, normal-size n))
+
+pub none-size : (k : ℕ) → length (noneLine k) ≡ 9 + length (digitsOf 9 k)
+unfolding noneLine
+none-size k = simp length-append (omega arith)
+
+pub asked-size : (n m : ℕ) → length (askedLine n m) ≡ 14 + length (digitsOf 9 n) + length (digitsOf 9 m)
+unfolding askedLine
+asked-size n m = simp length-append (omega arith)
+
+pub refused-size : (n p : ℕ) → length (refusedLine n p) ≡ 13 + length (digitsOf 9 n) + length (digitsOf 9 p)
+unfolding refusedLine
+refused-size n p = simp length-append (omega arith)

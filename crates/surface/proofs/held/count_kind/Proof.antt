@@ -4,21 +4,23 @@ use Prim.Native.Nat.{_-_, _/_, _≤_}
 use denote.Ref.{now}
 use lib.Dec.{eqb}
 use lib.ListN.{length}
+use Rattle.surface.specs.File.{wordsOf}
 use Rattle.surface.specs.Held.{howMany, isKind, countKind}
 use Rattle.surface.specs.Laws.Held.{howMany-next, howMany-le, one-at-most}
+use Rattle.surface.specs.Laws.File.{words-length}
 use native.Mathlib.Omega.{arith}
 use Rattle.surface.proofs.held.count_kind.Statement.{statement}
 use Rattle.surface.proofs.held.count_kind.Tie as tie
 
 abbrev Inv-loop : tie.InvT-loop
-Inv-loop held kind n found₀ k₀ found k = (found ≡ howMany (isKind held kind) k) × (k ≤ n) × (n ≡ length held / 8)
+Inv-loop bytes kind n found₀ k₀ found k = (found ≡ howMany (isKind (wordsOf bytes) kind) k) × (k ≤ n) × (n ≡ length (wordsOf bytes) / 8)
 
 abbrev μ-loop : tie.MeasureT-loop
-μ-loop held kind n found₀ k₀ found k = n - k
+μ-loop bytes kind n found₀ k₀ found k = n - k
 
 loop-holds : tie.Need-loop-holds Inv-loop μ-loop
 unfolding howMany
-loop-holds c = (refl, omega arith, refl)
+loop-holds c = (refl, omega arith, omega (arith, words-length (now (c .before .args .bytes))))
 
 word-requires : tie.Need-word-requires Inv-loop μ-loop
 word-requires c κs = omega arith
@@ -27,7 +29,7 @@ one-if-requires : tie.Need-one-if-requires Inv-loop μ-loop
 one-if-requires c κs = omega arith
 
 add-found : tie.Need-add-found Inv-loop μ-loop
-add-found c = let a = c .before .before .before .before .before .args in let l = c .before .before .before .loop in omega (arith, c .one-if .ensures, one-at-most (eqb (c .before .word .result) (a .kind)), howMany-le (isKind (now (a .held)) (a .kind)) (l .k), l .inv, c .before .before .before .before .before .pre)
+add-found c = let a = c .before .before .before .before .before .args in let l = c .before .before .before .loop in omega (arith, c .one-if .ensures, one-at-most (eqb (c .before .word .result) (a .kind)), howMany-le (isKind (wordsOf (now (a .bytes))) (a .kind)) (l .k), l .inv, c .before .before .before .before .before .pre)
 
 add-k : tie.Need-add-k Inv-loop μ-loop
 add-k c = omega arith
@@ -37,11 +39,11 @@ loop-less c = omega arith
 
 loop-again : tie.Need-loop-again Inv-loop μ-loop
 unfolding isKind
-loop-again c = let a = c .before .before .before .before .before .args in let l = c .before .before .before .loop in (rw (howMany-next (isKind (now (a .held)) (a .kind)) (l .k), ← (l .inv .0), ← (c .before .word .ensures), ← (c .one-if .ensures)), omega arith, l .inv .2)
+loop-again c = let a = c .before .before .before .before .before .args in let l = c .before .before .before .loop in (rw (howMany-next (isKind (wordsOf (now (a .bytes))) (a .kind)) (l .k), ← (l .inv .0), ← (c .before .word .ensures), ← (c .one-if .ensures)), omega arith, l .inv .2)
 
 returns : tie.Need-returns Inv-loop μ-loop
 unfolding countKind
-returns c = let l = c .before .loop in let e : l .k ≡ length (now (c .before .before .before .args .held)) / 8 = omega (arith, l .inv) in rw e at (l .inv .0)
+returns c = let l = c .before .loop in let e : l .k ≡ length (wordsOf (now (c .before .before .before .args .bytes))) / 8 = omega (arith, l .inv) in rw e at (l .inv .0)
 
 pub count-kind-spec : {M : Type 1} → statement M
 count-kind-spec =

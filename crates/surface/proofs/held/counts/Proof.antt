@@ -1,5 +1,9 @@
 -- `surface::held::counts` meets its contract. Assumes nothing.
+use native.Mathlib.Omega.{arith}
+use denote.Ref.{now}
+use Rattle.surface.specs.File.{wordsOf}
 use Rattle.surface.specs.Held.{sizesOf}
+use Rattle.surface.specs.Laws.Report.{kind-most}
 use borrow.Author.Needs.{needs}
 use Rattle.surface.proofs.held.counts.Statement.{statement}
 use Rattle.surface.proofs.held.counts.Tie as tie
@@ -15,7 +19,13 @@ count-kind-requires-3 c κs = search needs
 
 returns : tie.Need-returns
 unfolding sizesOf
-returns c = rw (c .count-kind3 .ensures, c .before .count-kind2 .ensures, c .before .before .count-kind .ensures)
+returns c =
+    let s = c .before .before .before .before in
+    let ws = wordsOf (now (s .args .bytes)) in
+    let v = c .before .before .count-kind .ensures in
+    let t = c .before .count-kind2 .ensures in
+    let q = c .count-kind3 .ensures in
+    (rw (q, t, v), (omega (arith, v, kind-most ws 1 (s .pre)), omega (arith, t, kind-most ws 2 (s .pre)), omega (arith, q, kind-most ws 3 (s .pre))))
 
 pub counts-spec : {M : Type 1} → statement M
 counts-spec =

@@ -6,6 +6,7 @@ use lib.ListN.{length}
 use Rattle.shape.specs.Gather.{gather}
 use Rattle.shape.specs.Memory.{Put}
 use Rattle.shape.specs.Laws.Memory.{put-none, put-turn, put-length}
+use Rattle.surface.specs.File.{wordsOf}
 use Rattle.surface.specs.Held.{countKind, placeIn, verticesOf}
 use Rattle.surface.specs.Laws.Held.{sized}
 use native.Mathlib.Omega.{arith}
@@ -13,14 +14,14 @@ use Rattle.surface.proofs.held.unpack_vertices.Statement.{statement}
 use Rattle.surface.proofs.held.unpack_vertices.Tie as tie
 
 abbrev Inv-loop : tie.InvT-loop
-Inv-loop held out₀ n at₀ k₀ out at k = Put out₀ out 0 (gather (placeIn held) k) at × (at ≡ 3 * k) × (k ≤ n) × (n ≡ countKind held 1) × (n ≤ length held / 8)
+Inv-loop bytes out₀ n at₀ k₀ out at k = Put out₀ out 0 (gather (placeIn (wordsOf bytes)) k) at × (at ≡ 3 * k) × (k ≤ n) × (n ≡ countKind (wordsOf bytes) 1) × (n ≤ length (wordsOf bytes) / 8)
 
 abbrev μ-loop : tie.MeasureT-loop
-μ-loop held out₀ n at₀ k₀ out at k = n - k
+μ-loop bytes out₀ n at₀ k₀ out at k = n - k
 
 loop-holds : tie.Need-loop-holds Inv-loop μ-loop
 unfolding gather
-loop-holds c = let s = c .before .before in let z = sized (now (s .args .held)) (s .args .sizes) (s .pre .1) in (put-none _ 0, refl, omega arith, z .vertices-are, z .vertices-few)
+loop-holds c = let s = c .before .before in let z = sized (wordsOf (now (s .args .bytes))) (s .args .sizes) (s .pre .1) in (put-none _ 0, refl, omega arith, z .vertices-are, z .vertices-few)
 
 put-singles-requires : tie.Need-put-singles-requires Inv-loop μ-loop
 put-singles-requires c κs = omega (arith, put-length (c .before .before .loop .inv .0), c .before .before .loop .inv, c .before .before .before .before .before .pre)
@@ -33,14 +34,14 @@ loop-less c = omega arith
 
 loop-again : tie.Need-loop-again Inv-loop μ-loop
 unfolding placeIn
-loop-again c = let l = c .before .before .before .before .before .loop in (put-turn (placeIn (now (c .before .before .before .before .before .before .before .before .args .held))) (l .k) (l .inv .0) (c .before .before .put-singles .ensures), omega (arith, c .before .before .put-singles .ensures .ends, l .inv), omega arith, l .inv .3, l .inv .4)
+loop-again c = let l = c .before .before .before .before .before .loop in (put-turn (placeIn (wordsOf (now (c .before .before .before .before .before .before .before .before .args .bytes)))) (l .k) (l .inv .0) (c .before .before .put-singles .ensures), omega (arith, c .before .before .put-singles .ensures .ends, l .inv), omega arith, l .inv .3, l .inv .4)
 
 same-length : tie.Need-same-length Inv-loop μ-loop
 same-length c = put-length (c .before .loop .inv .0)
 
 returns : tie.Need-returns Inv-loop μ-loop
 unfolding verticesOf
-returns c = let s = c .before .before .before .before in let z = sized (now (s .args .held)) (s .args .sizes) (s .pre .1) in let l = c .before .loop in let e : l .k ≡ countKind (now (s .args .held)) 1 = omega (arith, l .inv, z .vertices-are) in let f : l .at ≡ 3 * s .args .sizes .vertices = omega (arith, l .inv, z .vertices-are) in rw (e, f) at (l .inv .0)
+returns c = let s = c .before .before .before .before in let z = sized (wordsOf (now (s .args .bytes))) (s .args .sizes) (s .pre .1) in let l = c .before .loop in let e : l .k ≡ countKind (wordsOf (now (s .args .bytes))) 1 = omega (arith, l .inv, z .vertices-are) in let f : l .at ≡ 3 * s .args .sizes .vertices = omega (arith, l .inv, z .vertices-are) in rw (e, f) at (l .inv .0)
 
 pub unpack-vertices-spec : {M : Type 1} → statement M
 unpack-vertices-spec =

@@ -7,66 +7,72 @@ use lib.ListN.{length}
 use Rattle.shape.specs.Gather.{gather}
 use Rattle.shape.specs.Memory.{Put}
 use Rattle.shape.specs.Laws.Memory.{put-none, put-length}
-use Rattle.surface.specs.Held.{howMany}
+use Rattle.surface.specs.File.{wordsOf}
+use Rattle.surface.specs.Held.{countKind}
 use Rattle.surface.specs.Report.{lineAt, answeredAt}
 use Rattle.surface.specs.Laws.Held.{howMany-le}
-use Rattle.surface.specs.Laws.Report.{kind-most, lines-few}
-use Rattle.surface.proofs.Telling.{questions-are, next-line, next-count, last-line}
+use Rattle.surface.proofs.Telling.{asked-are, asked-most, asked-length, next-line, line-fits, last-fits, last-line}
 use Rattle.surface.proofs.report.put_lines.Statement.{statement}
 use Rattle.surface.proofs.report.put_lines.Tie as tie
 
 abbrev Inv-loop : tie.InvT-loop
-Inv-loop held sizes vertices normals indices index out₀ n told₀ k₀ out told k =
-    Put out₀ out 0 (gather (lineAt held) k) (told .at) × (told .found ≡ howMany (answeredAt held) k) × (k ≤ n) × (length out ≡ length out₀)
+Inv-loop bytes sizes records found out₀ n at₀ k₀ out at k = Put out₀ out 0 (gather (lineAt (wordsOf bytes)) k) at × (k ≤ n) × (length out ≡ length out₀)
 
 abbrev μ-loop : tie.MeasureT-loop
-μ-loop held sizes vertices normals indices index out₀ n told₀ k₀ out told k = n - k
+μ-loop bytes sizes records found out₀ n at₀ k₀ out at k = n - k
 
 loop-holds : tie.Need-loop-holds Inv-loop μ-loop
-unfolding gather howMany
-loop-holds c = (put-none (now (c .before .before .before .before .before .before .args .out)) 0, refl, omega arith, refl)
+unfolding gather
+loop-holds c = (put-none _ 0, omega arith, refl)
 
-put-answer-requires : tie.Need-put-answer-requires Inv-loop μ-loop
-put-answer-requires c κs =
-    let s = c .before .before .before .before .before .before .before .before .before in
-    let ws = now (s .args .held) in
-    let l = c .before .before .loop in
-    let f = lines-few ws (l .k) in
-    let n = kind-most ws 3 (s .pre .0 .few) in
-    (s .pre .0, (s .pre .1 .0, (omega (arith, questions-are (s .pre .0), c .before .loop-test .taken, n), omega (arith, questions-are (s .pre .0), c .before .loop-test .taken, n, f, l .inv .0 .ends, l .inv .3, s .pre .1 .1), omega (arith, questions-are (s .pre .0), c .before .loop-test .taken, n, l .inv .1, howMany-le (answeredAt ws) (l .k)))))
+line-at-requires : tie.Need-line-at-requires Inv-loop μ-loop
+line-at-requires c κs =
+    let s = c .before .before .before .before .before .before in
+    let k = c .before .loop-test .taken in
+    (s .pre .0, (omega (arith, k), omega (arith, k, asked-length (s .pre .0))))
+
+put-line-requires : tie.Need-put-line-requires Inv-loop μ-loop
+put-line-requires c κs =
+    let s = c .before .before .before .before .before .before .before in
+    let l = c .before .before .before .loop in
+    let t = c .line-at .ensures in
+    let k = c .before .before .loop-test .taken in
+    (t .words, omega (arith, k, asked-most (s .pre .0)), line-fits (wordsOf (now (s .args .bytes))) (l .k) t _ (l .inv .0) (omega (arith, k, asked-are (s .pre .0))) (omega (arith, s .pre .1 .1, l .inv .2)))
 
 add-k : tie.Need-add-k Inv-loop μ-loop
-add-k c = omega (arith, c .before .before .before .before .before .loop .inv .2, c .before .before .before .before .loop-test .taken, questions-are (c .before .before .before .before .before .before .before .before .before .before .before .before .pre .0), kind-most (now (c .before .before .before .before .before .before .before .before .before .before .before .before .args .held)) 3 (c .before .before .before .before .before .before .before .before .before .before .before .before .pre .0 .few))
+add-k c =
+    let far = c .before .before .before .before .before .before .before .before .before in
+    omega (arith, c .before .before .before .before .before .loop-test .taken, asked-most (far .before .pre .0))
 
 loop-less : tie.Need-loop-less Inv-loop μ-loop
-loop-less c = omega (arith, c .before .before .before .before .loop-test .taken)
+loop-less c = omega (arith, c .before .before .before .before .before .loop-test .taken)
 
 loop-again : tie.Need-loop-again Inv-loop μ-loop
 loop-again c =
-    let ws = now (c .before .before .before .before .before .before .before .before .before .before .before .before .args .held) in
-    let l = c .before .before .before .before .before .loop in
-    let t = c .before .before .put-answer .ensures in
-    let x = c .before .before .put-answer .result in
-    (next-line ws (l .k) (l .told) (l .inv .0) (l .inv .1) x t, next-count ws (l .k) (l .told) (l .inv .0) (l .inv .1) x t, omega (arith, c .before .before .before .before .loop-test .taken), omega (arith, put-length (t .line), l .inv .3))
+    let far = c .before .before .before .before .before .before .before .before .before in
+    let l = c .before .before .before .before .before .before .loop in
+    let p = c .before .before .put-line .ensures in
+    (next-line (wordsOf (now (far .before .args .bytes))) (l .k) (c .before .before .before .line-at .ensures) (l .inv .0) p, omega (arith, c .before .before .before .before .before .loop-test .taken), omega (arith, put-length p, l .inv .2))
 
 put-asked-requires : tie.Need-put-asked-requires Inv-loop μ-loop
 put-asked-requires c κs =
-    let s = c .before .before .before .before .before .before .before .before .before in
-    let ws = now (s .args .held) in
+    let s = c .before .before .before .before .before .before in
+    let ws = wordsOf (now (s .args .bytes)) in
     let l = c .before .before .loop in
-    let f = lines-few ws (l .k) in
-    let n = kind-most ws 3 (s .pre .0 .few) in
-    let q = questions-are (s .pre .0) in
-    (omega (arith, q, n, f, l .inv .0 .ends, l .inv .2, l .inv .3, s .pre .1 .1), omega (arith, q, n), omega (arith, q, n, l .inv .1, l .inv .2, howMany-le (answeredAt ws) (l .k)))
+    let e : l .k ≡ s .args .sizes .questions = omega (arith, l .inv .1, c .before .loop-test .left) in
+    let m = asked-most (s .pre .0) in
+    let h = howMany-le (answeredAt ws) (countKind ws 3) in
+    ((omega (arith, m), omega (arith, m, h, s .pre .1 .0, asked-are (s .pre .0))), last-fits ws (rw e at (l .inv .0)) (asked-are (s .pre .0)) (s .pre .1 .0) (omega (arith, s .pre .1 .1, l .inv .2)))
 
 same-length : tie.Need-same-length Inv-loop μ-loop
-same-length c = omega (arith, put-length (c .before .before .put-asked .ensures), c .before .before .before .before .before .loop .inv .3)
+same-length c = omega (arith, put-length (c .before .before .put-asked .ensures), c .before .before .before .before .before .loop .inv .2)
 
 returns : tie.Need-returns Inv-loop μ-loop
 returns c =
-    let s = c .before .before .before .before .before .before .before .before .before .before .before .before in
+    let s = c .before .before .before .before .before .before .before .before .before in
     let l = c .before .before .before .before .before .loop in
-    last-line (now (s .args .held)) (l .k) (l .told) (l .inv .0) (l .inv .1) (questions-are (s .pre .0)) (omega (arith, l .inv .2, c .before .before .before .before .loop-test .left)) (c .before .before .put-asked .ensures)
+    let e : l .k ≡ s .args .sizes .questions = omega (arith, l .inv .1, c .before .before .before .before .loop-test .left) in
+    last-line (wordsOf (now (s .args .bytes))) (rw e at (l .inv .0)) (asked-are (s .pre .0)) (s .pre .1 .0) (c .before .before .put-asked .ensures)
 
 pub put-lines-spec : {M : Type 1} → statement M
 put-lines-spec =
@@ -75,7 +81,8 @@ put-lines-spec =
     Inv-loop
     μ-loop
     loop-holds
-    put-answer-requires
+    line-at-requires
+    put-line-requires
     add-k
     loop-less
     loop-again

@@ -1,46 +1,67 @@
--- `surface::report::report` meets its contract, by the room that there is. Assumes nothing.
-use Prim.Native.Nat.{ℕ}
-use native.Mathlib.Omega.{arith}
+-- `surface::report::report` meets its contract: what was said of the file picks the text. Assumes nothing.
 use denote.Ref.{now}
-use lib.ListN.{length-replicate}
-use Rattle.surface.proofs.Reporting.{made-fits, made-part, told-short, told-whole}
+use Rattle.surface.proofs.Reporting.{file-place, file-refused, file-few, file-text, says-same, reported}
 use borrow.Author.Needs.{needs}
 use Rattle.surface.proofs.report.report.Statement.{statement}
 use Rattle.surface.proofs.report.report.Tie as tie
 
-slice-aggregate-put-report : tie.Need-slice-aggregate-put-report
-slice-aggregate-put-report c = search needs
+file-fault-requires : tie.Need-file-fault-requires
+file-fault-requires c κs = search needs
 
-put-report-requires : tie.Need-put-report-requires
-put-report-requires c κs = search needs
+enum-known-check : tie.Need-enum-known-check
+enum-known-check c = search needs
 
-returns : tie.Need-returns
-returns c = told-short (now (c .before .before .before .before .before .before .args .bytes)) (omega (arith, length-replicate {A = ℕ} 204834 0)) (c .before .before .put-report .ensures) (now (c .before .before .before .before .before .before .args .text)) (c .if1 .taken)
-
-array-share-prefix-made : tie.Need-array-share-prefix-made
-array-share-prefix-made c = made-fits (now (c .before .before .before .before .before .before .before .args .bytes)) (omega (arith, length-replicate {A = ℕ} 204834 0)) (c .before .before .before .put-report .ensures)
-
-slice-aggregate-put-bytes : tie.Need-slice-aggregate-put-bytes
-slice-aggregate-put-bytes c = made-part (now (c .before .before .before .before .before .before .before .before .args .bytes)) (omega (arith, length-replicate {A = ℕ} 204834 0)) (c .before .before .before .before .put-report .ensures)
-
-put-bytes-requires : tie.Need-put-bytes-requires
-put-bytes-requires c κs = omega (arith, made-part (now (c .before .before .before .before .before .before .before .before .args .bytes)) (omega (arith, length-replicate {A = ℕ} 204834 0)) (c .before .before .before .before .put-report .ensures), c .before .before .if1 .left)
+tell-refusal-requires : tie.Need-tell-refusal-requires
+tell-refusal-requires c κs =
+    let k = c .before .before in
+    let f = k .before .before in
+    let s = f .before .before .before in
+    file-place (now (s .args .bytes)) (f .file-fault .ensures) (k .check .given .1)
 
 same-length : tie.Need-same-length
 same-length c = search needs
 
+returns : tie.Need-returns
+returns c =
+    let q = c .before .before in
+    let k = q .before .before .before in
+    let f = k .before .before in
+    let s = f .before .before .before in
+    let bs = now (s .args .bytes) in
+    reported bs (now (s .args .text)) (says-same (file-refused bs (f .file-fault .ensures) (k .check .given .1)) (q .tell-refusal .ensures))
+
+enum-told : tie.Need-enum-told
+enum-told c = search needs
+
+tell-surface-requires : tie.Need-tell-surface-requires
+tell-surface-requires c κs =
+    let k = c .before in
+    let f = k .before .before in
+    let s = f .before .before .before in
+    file-few (now (s .args .bytes)) (f .file-fault .ensures) (k .enum-told .given .1)
+
+same-length-2 : tie.Need-same-length-2
+same-length-2 c = search needs
+
 returns-2 : tie.Need-returns-2
-returns-2 c = told-whole (now (c .before .before .before .before .before .before .before .before .before .before .before .args .bytes)) (omega (arith, length-replicate {A = ℕ} 204834 0)) (c .before .before .before .before .before .before .before .put-report .ensures) (now (c .before .before .before .before .before .before .before .before .before .before .before .args .text)) (c .before .before .before .before .before .if1 .left) (c .before .before .put-bytes .ensures)
+returns-2 c =
+    let q = c .before .before in
+    let k = q .before .before in
+    let f = k .before .before in
+    let s = f .before .before .before in
+    let bs = now (s .args .bytes) in
+    reported bs (now (s .args .text)) (says-same (file-text bs (f .file-fault .ensures) (k .enum-told .given .1)) (q .tell-surface .ensures))
 
 pub report-spec : {M : Type 1} → statement M
 report-spec =
     tie.close
     (tie.spec
-    slice-aggregate-put-report
-    put-report-requires
-    returns
-    array-share-prefix-made
-    slice-aggregate-put-bytes
-    put-bytes-requires
+    file-fault-requires
+    enum-known-check
+    tell-refusal-requires
     same-length
+    returns
+    enum-told
+    tell-surface-requires
+    same-length-2
     returns-2)

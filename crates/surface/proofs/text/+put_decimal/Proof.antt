@@ -3,7 +3,8 @@ use Prim.Native.Nat.{ℕ, _+_, _/_, _<_}
 use mathlib.Core.Path.{_∙_}
 use native.Mathlib.Omega.{arith}
 use Rattle.shape.specs.Laws.Memory.{put-length}
-use Rattle.surface.proofs.Texts.{digits-one, digits-last, digits-end}
+use Rattle.surface.specs.Laws.Text.{decimal-one, decimal-more}
+use Rattle.surface.proofs.Texts.{digits-one, digits-last}
 use borrow.Fn.Kinds.{In}
 use borrow.Fn.PlainCycle.{Measures, is, falls, and}
 use Rattle.surface.proofs.text.put_decimal.Reads as put-decimal
@@ -30,7 +31,9 @@ put-decimal-put-digit-requires : (t : ℕ) → put-decimal-lts.Need-put-digit-re
   put-decimal-below t,
   put-decimal.Post,
 ) (put-decimal-at t) put-decimal.Post
-put-decimal-put-digit-requires t c κs = omega arith
+put-decimal-put-digit-requires t c κs =
+    let s = c .before .before .before in
+    omega (arith, decimal-one (s .args .n) (c .before .if1 .taken), s .pre .1, c .before .if1 .taken)
 
 put-decimal-same-length : (t : ℕ) → put-decimal-lts.Need-same-length (
   put-digit-reads.Asked,
@@ -54,7 +57,11 @@ put-decimal-put-decimal-requires : (t : ℕ) → put-decimal-lts.Need-put-decima
   put-decimal-below t,
   put-decimal.Post,
 ) (put-decimal-at t) put-decimal.Post
-put-decimal-put-decimal-requires t c κs = omega (arith, c .before .before .before .pre .0, c .before .before .before .pre .1, c .before .if1 .left)
+put-decimal-put-decimal-requires t c κs =
+    let s = c .before .before .before in
+    let p = s .pre .1 in
+    let e = decimal-more (s .args .n) (c .before .if1 .left) (p .1) in
+    (omega (arith, s .pre .0, c .before .if1 .left), (omega (arith, e, p .0), omega (arith, p .1)))
 
 put-decimal-put-digit-requires-2 : (t : ℕ) → put-decimal-lts.Need-put-digit-requires-2 (
   put-digit-reads.Asked,
@@ -64,9 +71,11 @@ put-decimal-put-digit-requires-2 : (t : ℕ) → put-decimal-lts.Need-put-digit-
 ) (put-decimal-at t) put-decimal.Post
 put-decimal-put-digit-requires-2 t c κs =
     let n = c .before .before .before .before .before .before .before .args .n in
-    let b : n / 10 < 1000000000 = omega (arith, c .before .before .before .before .before .before .before .pre .1) in
-    let p = c .before .before .before .put-decimal .ensures 8 b in
-    omega (arith, c .before .before .before .before .before .before .before .pre .1, digits-end 8 (n / 10) p, put-length p)
+    let s = c .before .before .before .before .before .before .before in
+    let b : n / 10 < 10000000000 = omega (arith, s .pre .1) in
+    let p = c .before .before .before .put-decimal .ensures 9 b in
+    let e = decimal-more n (c .before .before .before .before .before .if1 .left) (s .pre .1 .1) in
+    omega (arith, s .pre .1, e, p .ends, put-length p)
 
 put-decimal-same-length-2 : (t : ℕ) → put-decimal-lts.Need-same-length-2 (
   put-digit-reads.Asked,

@@ -1,5 +1,4 @@
 -- `surface::text::put_found` meets its contract. Assumes nothing.
-use native.Mathlib.Omega.{arith}
 use Rattle.shape.specs.Laws.Memory.{put-then}
 use Rattle.surface.specs.Text.{foundLine}
 use borrow.Author.Needs.{needs}
@@ -48,7 +47,7 @@ returns c =
     let e = c .before .before .before .before .before .before .before .before .before .before .before .put-number2 .ensures in
     let f = c .before .before .before .before .before .before .before .put-lane .ensures in
     let g = c .before .before .put-bytes .ensures in
-    (put-then (put-then (put-then (put-then (put-then (a .0) (b .0)) (d .0)) (e .0)) (f .0)) g, omega (arith, a .1, b .1, d .1, e .1, f .1, g .ends))
+    put-then (put-then (put-then (put-then (put-then (a .0) (b .0)) (d .0)) (e .0)) f) g
 
 pub put-found-spec : {M : Type 1} → statement M
 put-found-spec =

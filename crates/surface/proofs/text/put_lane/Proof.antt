@@ -1,5 +1,6 @@
 -- `surface::text::put_lane` meets its contract. Assumes nothing.
 use native.Mathlib.Omega.{arith}
+use Rattle.surface.specs.Laws.Text.{lane-none-size, lane-some-size}
 use Rattle.surface.proofs.Texts.{lane-none, lane-some}
 use borrow.Author.Needs.{needs}
 use Rattle.surface.proofs.text.put_lane.Statement.{statement}
@@ -9,7 +10,7 @@ slice-aggregate-put-bytes : tie.Need-slice-aggregate-put-bytes
 slice-aggregate-put-bytes c = search needs
 
 put-bytes-requires : tie.Need-put-bytes-requires
-put-bytes-requires c κs = search needs
+put-bytes-requires c κs = omega (arith, lane-none-size (c .before .before .before .before .args .lane) (c .before .before .if1 .taken))
 
 same-length : tie.Need-same-length
 same-length c = search needs
@@ -17,13 +18,16 @@ same-length c = search needs
 returns : tie.Need-returns
 returns c =
     let p = c .before .before .put-bytes .ensures in
-    (lane-none (c .before .before .before .before .before .before .before .args .lane) (c .before .before .before .before .before .if1 .taken) p, omega (arith, p .ends))
+    lane-none (c .before .before .before .before .before .before .before .args .lane) (c .before .before .before .before .before .if1 .taken) p
 
 slice-aggregate-put-number : tie.Need-slice-aggregate-put-number
 slice-aggregate-put-number c = search needs
 
 put-number-requires : tie.Need-put-number-requires
-put-number-requires c κs = search needs
+put-number-requires c κs =
+    let s = c .before .before .before .before in
+    let e = lane-some-size (s .args .lane) (c .before .before .if1 .left) in
+    (omega (arith, e, s .pre .0), s .pre .1)
 
 same-length-2 : tie.Need-same-length-2
 same-length-2 c = search needs
@@ -31,7 +35,7 @@ same-length-2 c = search needs
 returns-2 : tie.Need-returns-2
 returns-2 c =
     let p = c .before .before .put-number .ensures in
-    (lane-some (c .before .before .before .before .before .before .before .args .lane) (c .before .before .before .before .before .if1 .left) (p .0), omega (arith, p .1))
+    lane-some (c .before .before .before .before .before .before .before .args .lane) (c .before .before .before .before .before .if1 .left) (p .0)
 
 pub put-lane-spec : {M : Type 1} → statement M
 put-lane-spec =

@@ -1,5 +1,4 @@
 -- `surface::text::put_none` meets its contract. Assumes nothing.
-use native.Mathlib.Omega.{arith}
 use Rattle.shape.specs.Laws.Memory.{put-then}
 use Rattle.surface.specs.Text.{noneLine}
 use borrow.Author.Needs.{needs}
@@ -26,7 +25,7 @@ unfolding noneLine
 returns c =
     let a = c .before .before .before .before .before .before .before .put-number .ensures in
     let b = c .before .before .put-bytes .ensures in
-    (put-then (a .0) b, omega (arith, a .1, b .ends))
+    put-then (a .0) b
 
 pub put-none-spec : {M : Type 1} → statement M
 put-none-spec =

@@ -1,7 +1,6 @@
 -- `surface::text::put_number` meets its contract. Assumes nothing.
 use native.Mathlib.Omega.{arith}
 use Rattle.shape.specs.Laws.Memory.{put-then}
-use Rattle.surface.proofs.Texts.{digits-end}
 use borrow.Author.Needs.{needs}
 use Rattle.surface.proofs.text.put_number.Statement.{statement}
 use Rattle.surface.proofs.text.put_number.Tie as tie
@@ -17,10 +16,9 @@ same-length c = search needs
 
 returns : tie.Need-returns
 returns c =
-    let n = c .before .before .before .before .before .before .before .before .before .before .args .n in
     let p = c .before .before .before .before .before .before .put-bytes .ensures in
     let q = c .before .before .put-decimal .ensures 9 (omega (arith, c .before .before .before .before .before .before .before .before .before .before .pre)) in
-    (put-then p q, omega (arith, p .ends, digits-end 9 n q))
+    (put-then p q, omega (arith, p .ends, q .ends))
 
 pub put-number-spec : {M : Type 1} → statement M
 put-number-spec = tie.close (tie.spec put-bytes-requires put-decimal-requires same-length returns)
