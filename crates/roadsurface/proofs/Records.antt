@@ -48,8 +48,8 @@ module _ (words : List ℕ) where
   record-taken : (s : Sample) {ws after : List ℕ} → ws ≡ recordOf (taken s) ++ drop (length (recordOf (taken s))) (replicate 8 0) → after ≡ ws ++ drop 8 words
       → Told (taken s) sampleWords words after 0
   unfolding codeOf wordsAfter sampleWords
-  record-taken s e h =
-      let f = e ∙ rw (record-length (taken s)) (append-nil (recordOf (taken s))) in
+  record-taken s {ws} e h =
+      let f : ws ≡ recordOf (taken s) = e ∙ rw (record-length (taken s)) (append-nil (recordOf (taken s))) in
       record { returned = refl; answer = rw (record-length (taken s), ← f) h }
 
   pub one-left : (s : Answer Sample) {n : ℕ} {ws after : List ℕ} → taken n ≡ recordAnswer s 8 → ws ≡ leaves (recordAnswer s 8) (recordOf s) (replicate 8 0)
