@@ -35,7 +35,7 @@ int main(void)
     for (unsigned k = 0; k < RS_COUNT(asked); k++) wheel(k, records + RS_RECORD_WORDS * k);
 
     /* an index that is spoilt where a wheel looks: that wheel is turned back, in its record */
-    index[9] = 1000;
+    index[8] = 0;
     asked = rs_tops_of(&mesh, index, RS_COUNT(built), wheels, 1, records, 1);
     if (refused(asked)) return 1;
     wheel(0, records);

@@ -29,7 +29,7 @@ fn main() -> Result<(), Refusal> {
     }
 
     // an index that is spoilt where a wheel looks: that wheel is turned back, in its record
-    index[9] = 1000;
+    index[8] = 0;
     tops(mesh, &index[..words], &[5.0, 1.0], &mut records)?;
     wheel(0, &records);
     assert_eq!(record(&records, 2), Err(Refusal::NoRecord(2)));
