@@ -7,7 +7,7 @@ use lib.Ieee.{Float, nan, inf, fin, binary32, add, sub, lt, le, eq, ne, isNan}
 use lib.Ieee.Bits.{is-true, is-false}
 use Rattle.rounding.specs.Extremes.{first, ge, minOf, maxOf}
 use Rattle.rounding.specs.Laws.Order.{IsNum, T-of, not-nan-num, num-of-same, nan-of-differs, lt-num-left, lt-num-right, lt-iff-not-le, le-of-not-lt}
-use Rattle.rounding.specs.Laws.Sums.{add-num-right, sub-num-right}
+use Rattle.rounding.specs.Laws.Sums.{add-num-left, add-num-right}
 use Rattle.vector.specs.declared.coords.Point.{Point}
 use Rattle.lookup.specs.Mesh.{cornersOf}
 use Rattle.lookup.specs.Box.{aroundOf, grownOf, grownBox, boxOf, mergeOf}
@@ -85,14 +85,10 @@ module _ (a b c : Point) (l₁ l₂ l₃ l₄ u₁ u₂ u₃ u₄ : Float)
   unfolding aroundOf
   leveled nx ny = rw (three minOf (a .x) (b .x) (c .x) l₁ l₂ A B nx, three minOf (a .y) (b .y) (c .y) l₃ l₄ C D ny, three maxOf (a .x) (b .x) (c .x) u₁ u₂ E F nx, three maxOf (a .y) (b .y) (c .y) u₃ u₄ G H ny)
 
-  pub boxed : ne l₂ l₂ ≡ false → (let s = add binary32 (sub binary32 u₂ l₂) (sub binary32 u₄ l₄) in ne s s ≡ false)
-      → _≡_ {A = Bounds} (record { «min_x» = l₂; «min_y» = l₄; «max_x» = u₂; «max_y» = u₄ }) (aroundOf a b c)
-  boxed e s =
-      let nx : IsNum (a .x) = three-back minOf (a .x) (b .x) (c .x) l₁ l₂ A B (num-of-same l₂ e) in
-      let d = sub binary32 u₄ l₄ in
-      let ns : IsNum d = add-num-right binary32 (sub binary32 u₂ l₂) d (num-of-same (add binary32 (sub binary32 u₂ l₂) d) s) in
-      let ny : IsNum (a .y) = three-back minOf (a .y) (b .y) (c .y) l₃ l₄ C D (sub-num-right binary32 u₄ l₄ ns) in
-      leveled nx ny
+  pub boxed : (let s = add binary32 l₂ l₄ in ne s s ≡ false) → _≡_ {A = Bounds} (record { «min_x» = l₂; «min_y» = l₄; «max_x» = u₂; «max_y» = u₄ }) (aroundOf a b c)
+  boxed s =
+      let n : IsNum (add binary32 l₂ l₄) = num-of-same (add binary32 l₂ l₄) s in
+      leveled (three-back minOf (a .x) (b .x) (c .x) l₁ l₂ A B (add-num-left binary32 l₂ l₄ n)) (three-back minOf (a .y) (b .y) (c .y) l₃ l₄ C D (add-num-right binary32 l₂ l₄ n))
 
 pub merged : (a b : Bounds) (l m u v : Float) → Sound a
     → Picked minOf (a .«min_x») (b .«min_x») l → Picked minOf (a .«min_y») (b .«min_y») m → Picked maxOf (a .«max_x») (b .«max_x») u → Picked maxOf (a .«max_y») (b .«max_y») v
