@@ -1,75 +1,62 @@
+-- `probe::read_input` meets its contract: what is read lies within the memory. Assumes nothing.
+use mathlib.Core.Path.{_≡_, refl}
+use Prim.Native.Nat.{_-_, _≤_}
+use native.Mathlib.Omega.{arith}
+use lib.ListN.{length, length-append, length-take, length-drop}
+use borrow.Author.Needs.{needs}
 use Rattle.probe.proofs.read_input.Statement.{statement}
 use Rattle.probe.proofs.read_input.Tie as tie
-use Rattle.probe.proofs.read_input.Reads as reads
-use Rattle.probe.proofs.read_input.Lts as lts
-use Rattle.io.proofs.count.Reads as count-reads
-use Rattle.libc.proofs.read.Reads as read-reads
 
 abbrev Inv-loop : tie.InvT-loop
-Inv-loop bytes₀ done₀ bytes done = ?
+Inv-loop bytes₀ done₀ bytes done = (done ≤ length bytes) × (length bytes ≡ length bytes₀)
 
 abbrev μ-loop : tie.MeasureT-loop
-μ-loop bytes₀ done₀ bytes done = ?
+μ-loop bytes₀ done₀ bytes done = length bytes - done
 
--- src/main.rt:17:5
 loop-holds : tie.Need-loop-holds Inv-loop μ-loop
-loop-holds c = ?
+loop-holds c = (omega arith, refl)
 
--- src/main.rt:18:20
 sub-part : tie.Need-sub-part Inv-loop μ-loop
-sub-part c = ?
+sub-part c = omega arith
 
--- src/main.rt:18:20
 part-part-start : tie.Need-part-part-start Inv-loop μ-loop
-part-part-start c = ?
+part-part-start c = omega arith
 
--- src/main.rt:18:20
 part-part-end : tie.Need-part-part-end Inv-loop μ-loop
-part-part-end c = ?
+part-part-end c = omega arith
 
--- src/main.rt:19:13
 read-requires : tie.Need-read-requires Inv-loop μ-loop
-read-requires c κs = ?
+read-requires c κs = search needs
 
--- src/main.rt:21:13
 same-length : tie.Need-same-length Inv-loop μ-loop
-same-length c = ?
+same-length c = simp (length-append, length-take, length-drop) (omega arith)
 
--- src/main.rt:21:13
 returns : tie.Need-returns Inv-loop μ-loop
-returns c = ?
+returns c = search needs
 
--- src/main.rt:23:13
 count-requires : tie.Need-count-requires Inv-loop μ-loop
-count-requires c κs = ?
+count-requires c κs = search needs
 
--- src/main.rt:25:13
 same-length-2 : tie.Need-same-length-2 Inv-loop μ-loop
-same-length-2 c = ?
+same-length-2 c = simp (length-append, length-take, length-drop) (omega arith)
 
--- src/main.rt:25:13
 returns-2 : tie.Need-returns-2 Inv-loop μ-loop
-returns-2 c = ?
+returns-2 c = search needs
 
--- src/main.rt:27:9
 add-done : tie.Need-add-done Inv-loop μ-loop
-add-done c = ?
+add-done c = omega arith
 
--- src/main.rt:17:5
 loop-less : tie.Need-loop-less Inv-loop μ-loop
-loop-less c = ?
+loop-less c = simp (length-append, length-take, length-drop) (omega arith)
 
--- src/main.rt:17:5
 loop-again : tie.Need-loop-again Inv-loop μ-loop
-loop-again c = ?
+loop-again c = (simp (length-append, length-take, length-drop) (omega arith), simp (length-append, length-take, length-drop) (omega arith))
 
--- src/main.rt:15:1
 same-length-3 : tie.Need-same-length-3 Inv-loop μ-loop
-same-length-3 c = ?
+same-length-3 c = omega arith
 
--- src/main.rt:15:1
 returns-3 : tie.Need-returns-3 Inv-loop μ-loop
-returns-3 c = ?
+returns-3 c = search needs
 
 pub read-input-spec : {M : Type 1} → statement M
 read-input-spec =
