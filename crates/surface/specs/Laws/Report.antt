@@ -1,7 +1,7 @@
 -- The text of a file has a bound, its mesh is always in order, and no lookup that it is made of is turned back. Assumes nothing.
-use mathlib.Core.Path.{_≡_, refl, sym, ap, _∙_}
+use mathlib.Core.Path.{_≡_, refl, sym, ap, _∙_, subst}
 use mathlib.Core.Bool.{Bool, true, false}
-use mathlib.Core.List.{List}
+use mathlib.Core.List.{List, [], append-nil}
 use Prim.Native.Nat.{ℕ, zero, suc, _+_, _*_, _/_, _%_, _≤_, _<_}
 use native.Mathlib.Nat.{add-zero}
 use native.Mathlib.Omega.{arith}
@@ -14,10 +14,13 @@ use Rattle.shape.specs.Gather.{gather, any}
 use Rattle.shape.specs.Lists.{longer, uneven, meshFault}
 use Rattle.shape.specs.Refusal.{Fault, fine, fault, refuse, Answer, taken, refused, judge, leaves}
 use Rattle.shape.specs.Laws.Gather.{gather-most, gather-even, gather-at}
-use Rattle.lookup.specs.Index.{candidatesOf, buildOf, roomFault, answerTo}
+use Rattle.lookup.specs.Index.{candidatesOf, indexWords, buildOf, roomFault, answerTo}
 use Rattle.lookup.specs.Demand3.{BuiltFrom}
 use Rattle.lookup.specs.Sampler.{Sample, hit, miss, sampleIn, topFault, topOf}
-use Rattle.lookup.specs.Batch.{recordOf, recordAt, recordsOf, pointsFault, topsOf}
+use Rattle.lookup.specs.Consult.{headFault, consultOf}
+use Rattle.lookup.specs.Mesh.{triangles}
+use Rattle.lookup.specs.Batch.{recordOf, recordAt, recordsOf, countAnswer, topsOf}
+use Rattle.lookup.specs.Laws.Index.{Hands, hands}
 use Rattle.lookup.specs.Laws.Limits.{judged}
 use Rattle.lookup.specs.Laws.Demand3.{top-taken, words-fit}
 use Rattle.surface.specs.declared.file.Copied.{Copied}
@@ -177,9 +180,19 @@ module _ (ws : List ℕ) (few : length ws ≤ 16384) {n : ℕ} (t : buildOf (mes
       let b = built-from o e in
       top-taken (meshIn ws) (indexIn ws) b x y (words-fit (meshIn ws) (indexIn ws) b (whole o e))
 
+  -- the index's first words are those of an index of the mesh
+  head-fine : headFault (indexIn ws) (triangles (indicesOf ws)) ≡ fine
+  unfolding indexIn consultOf
+  head-fine =
+      let vs = verticesOf ws in
+      let is = indicesOf ws in
+      let h = hands vs is [] nan nan in
+      let e = subst (λ (o : List ℕ). consultOf o (triangles is) nan nan ≡ taken (h .place)) (append-nil (indexWords vs is)) (h .answers) in
+      judged (headFault (indexWords vs is) (triangles is)) _ _ e .0
+
   -- "all questions by one call": it is taken, whatever the lookup judges of the index, which was built from the mesh
   pub all-taken : topsOf (meshIn ws) (indexIn ws) (pointsOf ws) 16384 ≡ taken (countKind ws 3)
-  unfolding topsOf pointsFault refuse uneven judge topOf
+  unfolding topsOf countAnswer refuse uneven judge topOf meshIn
   all-taken =
       let x = nan in
       let f = judged (topFault (meshIn ws) (indexIn ws)) _ _ (never-refused x x) .0 in
@@ -188,7 +201,7 @@ module _ (ws : List ℕ) (few : length ws ≤ 16384) {n : ℕ} (t : buildOf (mes
       let even : n % 2 ≡ 0 = omega (arith, points-length ws) in
       let half : n / 2 ≡ k = omega (arith, points-length ws) in
       let room : 8 * k ≤ 16384 = omega (arith, kind-most ws 3 few) in
-      rw (f, eq-eqb (n % 2) 0 even, half, le-ltb 16384 (8 * k) room)
+      rw (f, eq-eqb (n % 2) 0 even, head-fine, half, le-ltb 16384 (8 * k) room)
 
   -- and it leaves the records of the questions' answers
   record-is : (k : ℕ) → k < countKind ws 3 → recordAt (meshIn ws) (indexIn ws) (pointsOf ws) k ≡ recordIn ws k
