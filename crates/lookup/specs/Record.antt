@@ -28,8 +28,8 @@ recordAnswer (refused number place) room = refused number place
 -- ---- a step on the way, for the private functions
 
 -- the numbers of the record are words of 32 bits
-unfoldable pub InWords : Answer Sample → Type 0
+unfoldable pub RecordFits : Answer Sample → Type 0
 unfolding laneId
-InWords (taken (hit h n t l)) = (t < 4294967296) × (laneId l < 4294967296)
-InWords (taken miss) = Unit {0}
-InWords (refused number place) = place < 4294967296
+RecordFits (taken (hit h n t l)) = (t < 4294967296) × (laneId l < 4294967296)
+RecordFits (taken miss) = Unit {0}
+RecordFits (refused number place) = place < 4294967296

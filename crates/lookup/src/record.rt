@@ -10,7 +10,7 @@ ghost use Rattle.shape.specs.Refusal.{taken, leaves};
 ghost use Rattle.lookup.specs.Plain.{answerOf, readAnswer};
 ghost use Rattle.lookup.specs.Sampler.{Sample, readSampled, topOf};
 ghost use Rattle.lookup.specs.Batch.{recordOf, readSampling};
-ghost use Rattle.lookup.specs.Record.{plainSample, roomFor, recordAnswer, InWords};
+ghost use Rattle.lookup.specs.Record.{plainSample, roomFor, recordAnswer, RecordFits};
 use crate::mesh::Answer;
 use crate::mesh::height_at;
 use crate::sampler::Lane;
@@ -58,7 +58,7 @@ fn put_eight(
 // The record of a point's answer, from `at` on.
 pub(crate) fn put_record(out: &mut [u32], at: usize, s: Sampled) -> usize
     requires { ⌜ at + 8 ≤ length (now out) ⌝ }
-    requires { ⌜ InWords (readSampled s) ⌝ }
+    requires { ⌜ RecordFits (readSampled s) ⌝ }
     ensures { λ r. ⌜ Put (now (out .entry)) (now (out .exit)) at (recordOf (readSampled s)) r ⌝ }
 {
     match s {
@@ -81,7 +81,7 @@ pub(crate) fn put_record(out: &mut [u32], at: usize, s: Sampled) -> usize
 
 // The record of an answer that is taken, at the front, and n; or that there is no room for it.
 fn put_front(words: &mut [u32], s: Sampled, n: usize) -> Sampling
-    requires { ⌜ InWords (readSampled s) ⌝ }
+    requires { ⌜ RecordFits (readSampled s) ⌝ }
     ensures { λ r. ⌜ readSampling r ≡ roomFor n (length (now (words .entry))) ⌝ }
     ensures { λ _. ⌜ now (words .exit) ≡ leaves (roomFor n (length (now (words .entry)))) (recordOf (readSampled s)) (now (words .entry)) ⌝ }
 {
@@ -94,7 +94,7 @@ fn put_front(words: &mut [u32], s: Sampled, n: usize) -> Sampling
 
 // The same for any answer: 1 where it has a height, 0 where it has none. One that is refused writes nothing.
 fn answer_by(words: &mut [u32], s: Sampled) -> Sampling
-    requires { ⌜ ((a : Sample) → readSampled s ≡ taken a → InWords (taken a)) ⌝ }
+    requires { ⌜ ((a : Sample) → readSampled s ≡ taken a → RecordFits (taken a)) ⌝ }
     ensures { λ r. ⌜ readSampling r ≡ recordAnswer (readSampled s) (length (now (words .entry))) ⌝ }
     ensures { λ _. ⌜ now (words .exit) ≡ leaves (recordAnswer (readSampled s) (length (now (words .entry)))) (recordOf (readSampled s)) (now (words .entry)) ⌝ }
 {

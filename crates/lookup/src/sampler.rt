@@ -490,7 +490,8 @@ pub fn tops(
     points: &[f32],
     answers: &mut [u32],
 ) -> Sampling
-    ensures { λ r. let m = meshLists (now (vertices .entry)) (now (normals .entry)) (now (indices .entry)) (now (spans .entry)) in ⌜ readSampling r ≡ topsOf m (now (index .entry)) (now (points .entry)) (length (now (answers .entry))) ⌝ }
+    ensures { λ r. let m = meshLists (now (vertices .entry)) (now (normals .entry)) (now (indices .entry)) (now (spans .entry)) in
+        ⌜ readSampling r ≡ topsOf m (now (index .entry)) (now (points .entry)) (length (now (answers .entry))) ⌝ }
     ensures { λ _. let m = meshLists (now (vertices .entry)) (now (normals .entry)) (now (indices .entry)) (now (spans .entry)) in
         ⌜ now (answers .exit) ≡ leaves (topsOf m (now (index .entry)) (now (points .entry)) (length (now (answers .entry)))) (recordsOf m (now (index .entry)) (now (points .entry))) (now (answers .entry)) ⌝ }
 {

@@ -25,7 +25,7 @@ use Rattle.surface.specs.declared.report.Line.the-variants.{Found, None}
 use Rattle.surface.specs.Held.{howMany, countKind, sizesOf, laneOf, questionAt}
 use Rattle.surface.specs.Text.{digitsOf, laneText, foundLine, noneLine, askedLine}
 use Rattle.surface.specs.Report.{meshIn, indexIn, given, sampleAt, answered, lineOf, lineAt, answeredAt, linesOf}
-use Rattle.surface.specs.ReportSteps.{recordIn, recordsIn, Asked, textOf, isFound, InWords, Tells, Tallied}
+use Rattle.surface.specs.ReportSteps.{recordIn, recordsIn, Asked, textOf, isFound, LineFits, Tells, Tallied}
 use Rattle.surface.specs.Laws.Held.{howMany-next, howMany-le}
 use Rattle.surface.specs.Laws.Text.{found-size, none-size, asked-size}
 use Rattle.surface.specs.Laws.Report.{kind-most, lines-few}
@@ -137,7 +137,7 @@ module _ {ws : List ℕ} {sizes : Sizes} {rs : List ℕ} (a : Asked ws sizes rs)
 -- ---- one line put, and counted
 
 module _ (k : ℕ) {line : Line} where
-  pub found-room : {h : Float} {v : Vector} {t lane : ℕ} (at room : ℕ) → line ≡ Found h v t lane → InWords line → k < 2 ^ 32 → at + length (textOf k line) ≤ room
+  pub found-room : {h : Float} {v : Vector} {t lane : ℕ} (at room : ℕ) → line ≡ Found h v t lane → LineFits line → k < 2 ^ 32 → at + length (textOf k line) ≤ room
       → ((k < 2 ^ 32) × (t < 2 ^ 32) × (lane < 2 ^ 32)) × (at + 64 + length (digitsOf 9 k) + length (digitsOf 9 t) + length (laneText lane) ≤ room)
   unfolding textOf
   found-room {h} {v} {t} {lane} at room e w small g =

@@ -56,14 +56,14 @@ unfoldable pub isFound : Line → Bool
 isFound (Found height normal triangle lane) = true
 isFound None = false
 
-pub record InWords (line : Line) : Type 0 where
+pub record LineFits (line : Line) : Type 0 where
   pub small : {height : Float} {normal : Vector} {triangle lane : ℕ} → line ≡ Found height normal triangle lane → (triangle < 2 ^ 32) × (lane < 2 ^ 32)
 
 -- a line tells the answer to question k
 pub record Tells (ws : List ℕ) (k : ℕ) (line : Line) : Type 0 where
   pub text : textOf k line ≡ lineAt ws k
   pub answer : isFound line ≡ answeredAt ws k
-  pub words : InWords line
+  pub words : LineFits line
 
 -- the lines of all questions are counted
 pub record Tallied (ws : List ℕ) (told : Told) : Type 0 where

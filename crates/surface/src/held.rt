@@ -68,7 +68,7 @@ fn count_kind(bytes: &[u8], kind: u32) -> usize
 }
 
 // How many vertices, triangles and questions there are.
-pub fn counts(bytes: &[u8]) -> Sizes
+pub(crate) fn counts(bytes: &[u8]) -> Sizes
     requires { ⌜ length (wordsOf (now bytes)) ≤ 16384 ⌝ }
     ensures { λ r. ⌜ r ≡ sizesOf (wordsOf (now (bytes .entry))) ⌝ }
     ensures { λ r. ⌜ (r .vertices ≤ 2048) × (r .triangles ≤ 2048) × (r .questions ≤ 2048) ⌝ }
@@ -94,7 +94,7 @@ fn put_singles(bytes: &[u8], k: usize, j: usize, out: &mut [f32], at: usize) -> 
 }
 
 // The places of all vertices, to the front of `out`.
-pub fn unpack_vertices(bytes: &[u8], sizes: Sizes, out: &mut [f32])
+pub(crate) fn unpack_vertices(bytes: &[u8], sizes: Sizes, out: &mut [f32])
     requires { ⌜ (length (wordsOf (now bytes)) ≤ 16384) × (sizes ≡ sizesOf (wordsOf (now bytes))) × (3 * sizes .vertices ≤ length (now out)) ⌝ }
     ensures { λ r. ⌜ Put (now (out .entry)) (now (out .exit)) 0 (verticesOf (wordsOf (now (bytes .entry)))) (3 * sizes .vertices) ⌝ }
 {
@@ -108,7 +108,7 @@ pub fn unpack_vertices(bytes: &[u8], sizes: Sizes, out: &mut [f32])
 }
 
 // The normals of all vertices, to the front of `out`.
-pub fn unpack_normals(bytes: &[u8], sizes: Sizes, out: &mut [f32])
+pub(crate) fn unpack_normals(bytes: &[u8], sizes: Sizes, out: &mut [f32])
     requires { ⌜ (length (wordsOf (now bytes)) ≤ 16384) × (sizes ≡ sizesOf (wordsOf (now bytes))) × (3 * sizes .vertices ≤ length (now out)) ⌝ }
     ensures { λ r. ⌜ Put (now (out .entry)) (now (out .exit)) 0 (normalsOf (wordsOf (now (bytes .entry)))) (3 * sizes .vertices) ⌝ }
 {
@@ -133,7 +133,7 @@ fn put_corners(bytes: &[u8], k: usize, out: &mut [u32], at: usize) -> usize
 }
 
 // The corners of all triangles, to the front of `out`.
-pub fn unpack_indices(bytes: &[u8], sizes: Sizes, out: &mut [u32])
+pub(crate) fn unpack_indices(bytes: &[u8], sizes: Sizes, out: &mut [u32])
     requires { ⌜ (length (wordsOf (now bytes)) ≤ 16384) × (sizes ≡ sizesOf (wordsOf (now bytes))) × (3 * sizes .triangles ≤ length (now out)) ⌝ }
     ensures { λ r. ⌜ Put (now (out .entry)) (now (out .exit)) 0 (indicesOf (wordsOf (now (bytes .entry)))) (3 * sizes .triangles) ⌝ }
 {
@@ -150,7 +150,7 @@ pub fn unpack_indices(bytes: &[u8], sizes: Sizes, out: &mut [u32])
 // ---- lanes and questions
 
 // The lane id of triangle t, 0 for none.
-pub fn lane_of(bytes: &[u8], sizes: Sizes, t: usize) -> u32
+pub(crate) fn lane_of(bytes: &[u8], sizes: Sizes, t: usize) -> u32
     requires { ⌜ (length (wordsOf (now bytes)) ≤ 16384) × (sizes ≡ sizesOf (wordsOf (now bytes))) × (t < 2 ^ 32) ⌝ }
     ensures { λ r. ⌜ r ≡ laneOf (wordsOf (now (bytes .entry))) t ⌝ }
 {
@@ -158,7 +158,7 @@ pub fn lane_of(bytes: &[u8], sizes: Sizes, t: usize) -> u32
 }
 
 // Where question k asks.
-pub fn question_at(bytes: &[u8], sizes: Sizes, k: usize) -> Question
+pub(crate) fn question_at(bytes: &[u8], sizes: Sizes, k: usize) -> Question
     requires { ⌜ (length (wordsOf (now bytes)) ≤ 16384) × (sizes ≡ sizesOf (wordsOf (now bytes))) × (k < 2 ^ 32) ⌝ }
     ensures { λ r. ⌜ r ≡ questionAt (wordsOf (now (bytes .entry))) k ⌝ }
 {
@@ -179,7 +179,7 @@ fn put_point(out: &mut [f32], at: usize, q: Question) -> usize
 }
 
 // The points of all questions, in pairs, to the front of `out`.
-pub fn unpack_points(bytes: &[u8], sizes: Sizes, out: &mut [f32])
+pub(crate) fn unpack_points(bytes: &[u8], sizes: Sizes, out: &mut [f32])
     requires { ⌜ (length (wordsOf (now bytes)) ≤ 16384) × (sizes ≡ sizesOf (wordsOf (now bytes))) × (2 * sizes .questions ≤ length (now out)) ⌝ }
     ensures { λ r. ⌜ Put (now (out .entry)) (now (out .exit)) 0 (pointsOf (wordsOf (now (bytes .entry)))) (2 * sizes .questions) ⌝ }
 {

@@ -13,7 +13,7 @@ ghost use Rattle.surface.specs.File.{wordsOf, readCopied};
 ghost use Rattle.surface.specs.Held.{howMany, countKind};
 ghost use Rattle.surface.specs.Text.{refusedLine};
 ghost use Rattle.surface.specs.Report.{meshIn, indexIn, answeredAt, linesOf, reportOf, reportAnswer};
-ghost use Rattle.surface.specs.ReportSteps.{Unpacked, Asked, Tells, Tallied, Says, textOf, isFound, InWords, surfaceText};
+ghost use Rattle.surface.specs.ReportSteps.{Unpacked, Asked, Tells, Tallied, Says, textOf, isFound, LineFits, surfaceText};
 use crate::file::Copied;
 use crate::file::file_fault;
 use crate::held::Sizes;
@@ -126,7 +126,7 @@ fn line_at(bytes: &[u8], sizes: Sizes, records: &[u32], k: usize) -> Line
 
 // The line of question k, from `at` on.
 fn put_line(out: &mut [u8], at: usize, k: usize, line: Line) -> usize
-    requires { ⌜ InWords line × (k < 2 ^ 32) × (at + length (textOf k line) ≤ length (now out)) ⌝ }
+    requires { ⌜ LineFits line × (k < 2 ^ 32) × (at + length (textOf k line) ≤ length (now out)) ⌝ }
     ensures { λ r. ⌜ Put (now (out .entry)) (now (out .exit)) at (textOf k line) r ⌝ }
 {
     match line {
@@ -147,7 +147,7 @@ struct Told {
 
 // One line more, that of question k.
 fn counted(told: Told, k: usize, line: Line) -> Told
-    requires { ⌜ InWords line × (k < 2048) × (told .size ≤ 204800) × (told .found ≤ 2048) ⌝ }
+    requires { ⌜ LineFits line × (k < 2048) × (told .size ≤ 204800) × (told .found ≤ 2048) ⌝ }
     ensures { λ r. ⌜ (r .size ≡ told .size + length (textOf k line)) × (r .found ≡ told .found + cond (isFound line) 1 0) ⌝ }
 {
     match line {

@@ -10,7 +10,7 @@ use rounding::bits::stored;
 use vector::coords::Vector;
 
 // Bytes as they are.
-pub fn put_bytes(out: &mut [u8], at: usize, bytes: &[u8]) -> usize
+pub(crate) fn put_bytes(out: &mut [u8], at: usize, bytes: &[u8]) -> usize
     requires { ⌜ at + length (now bytes) ≤ length (now out) ⌝ }
     ensures { λ r. ⌜ Put (now (out .entry)) (now (out .exit)) at (now (bytes .entry)) r ⌝ }
 {
@@ -117,7 +117,7 @@ fn put_lane(out: &mut [u8], at: usize, lane: usize) -> usize
 // ---- lines
 
 // The answer to question k: height, normal, triangle and lane.
-pub fn put_found(
+pub(crate) fn put_found(
     out: &mut [u8],
     at: usize,
     k: usize,
@@ -139,7 +139,7 @@ pub fn put_found(
 }
 
 // That question k has no answer.
-pub fn put_none(out: &mut [u8], at: usize, k: usize) -> usize
+pub(crate) fn put_none(out: &mut [u8], at: usize, k: usize) -> usize
     requires { ⌜ (at + 9 + length (decimal k) ≤ length (now out)) × (k < 2 ^ 32) ⌝ }
     ensures { λ r. ⌜ Put (now (out .entry)) (now (out .exit)) at (noneLine k) r ⌝ }
 {
@@ -159,7 +159,7 @@ fn put_pair(out: &mut [u8], at: usize, first: &[u8], n: usize, second: &[u8], m:
 }
 
 // The last line.
-pub fn put_asked(out: &mut [u8], at: usize, asked: usize, found: usize) -> usize
+pub(crate) fn put_asked(out: &mut [u8], at: usize, asked: usize, found: usize) -> usize
     requires { ⌜ (asked < 2 ^ 32) × (found < 2 ^ 32) ⌝ }
     requires { ⌜ at + 14 + length (decimal asked) + length (decimal found) ≤ length (now out) ⌝ }
     ensures { λ r. ⌜ Put (now (out .entry)) (now (out .exit)) at (askedLine asked found) r ⌝ }
@@ -168,7 +168,7 @@ pub fn put_asked(out: &mut [u8], at: usize, asked: usize, found: usize) -> usize
 }
 
 // A refusal, by its number and place.
-pub fn put_refused(out: &mut [u8], at: usize, number: usize, place: usize) -> usize
+pub(crate) fn put_refused(out: &mut [u8], at: usize, number: usize, place: usize) -> usize
     requires { ⌜ (number < 2 ^ 32) × (place < 2 ^ 32) ⌝ }
     requires { ⌜ at + 13 + length (decimal number) + length (decimal place) ≤ length (now out) ⌝ }
     ensures { λ r. ⌜ Put (now (out .entry)) (now (out .exit)) at (refusedLine number place) r ⌝ }
@@ -204,7 +204,7 @@ fn lane_length(id: usize) -> usize
 }
 
 // The line of an answer. Its words and floats take 64 bytes.
-pub fn found_length(k: usize, triangle: usize, lane: usize) -> usize
+pub(crate) fn found_length(k: usize, triangle: usize, lane: usize) -> usize
     requires { ⌜ (k < 2 ^ 32) × (triangle < 2 ^ 32) × (lane < 2 ^ 32) ⌝ }
     ensures { λ r. ⌜ (r ≡ 64 + length (decimal k) + length (decimal triangle) + length (laneText lane)) × (r ≤ 100) ⌝ }
 {
@@ -212,7 +212,7 @@ pub fn found_length(k: usize, triangle: usize, lane: usize) -> usize
 }
 
 // The line that there is none.
-pub fn none_length(k: usize) -> usize
+pub(crate) fn none_length(k: usize) -> usize
     requires { ⌜ k < 2 ^ 32 ⌝ }
     ensures { λ r. ⌜ (r ≡ 9 + length (decimal k)) × (r ≤ 100) ⌝ }
 {
@@ -220,7 +220,7 @@ pub fn none_length(k: usize) -> usize
 }
 
 // The last line.
-pub fn asked_length(asked: usize, found: usize) -> usize
+pub(crate) fn asked_length(asked: usize, found: usize) -> usize
     requires { ⌜ (asked < 2 ^ 32) × (found < 2 ^ 32) ⌝ }
     ensures { λ r. ⌜ (r ≡ 14 + length (decimal asked) + length (decimal found)) × (r ≤ 34) ⌝ }
 {
@@ -228,7 +228,7 @@ pub fn asked_length(asked: usize, found: usize) -> usize
 }
 
 // A refusal.
-pub fn refused_length(number: usize, place: usize) -> usize
+pub(crate) fn refused_length(number: usize, place: usize) -> usize
     requires { ⌜ (number < 2 ^ 32) × (place < 2 ^ 32) ⌝ }
     ensures { λ r. ⌜ (r ≡ 13 + length (decimal number) + length (decimal place)) × (r ≤ 33) ⌝ }
 {

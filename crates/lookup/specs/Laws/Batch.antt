@@ -24,7 +24,7 @@ use Rattle.lookup.specs.Plain.{scanOf, entryOf, lookupOf, plainOf, answe
 use Rattle.lookup.specs.Consult.{Place, runIn, consultOf}
 use Rattle.lookup.specs.Sampler.{pastOf, laneOf, topFault, Sample, hit, miss, sampleOf, sampleIn, onward, topOf}
 use Rattle.lookup.specs.Batch.{laneId, wordFor, recordOf, recordAt, recordsOf, pointsIn, topsOf}
-use Rattle.lookup.specs.Record.{plainSample, InWords}
+use Rattle.lookup.specs.Record.{plainSample, RecordFits}
 use Rattle.lookup.specs.Laws.Scan.{scan-found}
 use Rattle.lookup.specs.Laws.Plain.{covers-below}
 use Rattle.lookup.specs.Laws.Limits.{in-order, mesh-in-order, index-in-order}
@@ -54,25 +54,25 @@ module _ (m : Mesh) (x y : Float) (f : meshFault m ≡ fine) where
       omega (arith, l, o .indices)
 
   sample-words : ((i : ℕ) → getD (m .spans) i 0 < 4294967296) → (run : List ℕ) (s : Best)
-      → s ≡ scanOf (m .vertices) (m .indices) x y (entryOf run) (length run) → InWords (taken (sampleOf m x y s))
-  unfolding InWords sampleOf
+      → s ≡ scanOf (m .vertices) (m .indices) x y (entryOf run) (length run) → RecordFits (taken (sampleOf m x y s))
+  unfolding RecordFits sampleOf
   sample-words w run (At h t) e = (triangle-word (entryOf run) (length run) (sym e), lane-word (m .spans) w t)
   sample-words w run Nothing e = tt
 
-  lookup-words : (s : Best) → s ≡ scanOf (m .vertices) (m .indices) x y (λ t. t) (triangles (m .indices)) → InWords (plainSample (taken (lookupOf m x y s)))
-  unfolding InWords plainSample lookupOf
+  lookup-words : (s : Best) → s ≡ scanOf (m .vertices) (m .indices) x y (λ t. t) (triangles (m .indices)) → RecordFits (plainSample (taken (lookupOf m x y s)))
+  unfolding RecordFits plainSample lookupOf
   lookup-words (At h t) e = (triangle-word (λ t. t) (triangles (m .indices)) (sym e), omega arith)
   lookup-words Nothing e = tt
 
 module _ (m : Mesh) (ws : List ℕ) (x y : Float) (w : (i : ℕ) → getD (m .spans) i 0 < 4294967296) where
-  pub top-words : topFault m ws ≡ fine → InWords (topOf m ws x y)
-  unfolding topOf judge onward sampleIn InWords
+  pub top-words : topFault m ws ≡ fine → RecordFits (topOf m ws x y)
+  unfolding topOf judge onward sampleIn RecordFits
   top-words f =
       let n = triangles (m .indices) in
       rw f (go f (consultOf ws n x y) (consult-holds (λ (k p : ℕ). p < 4294967296) (λ p l. l) ws n (index-in-order m ws f) x y))
     where
       go : topFault m ws ≡ fine → (a : Answer Place) → ((k p : ℕ) → a ≡ refused k p → p < 4294967296)
-          → InWords (onward a (λ (p : Place). sampleIn m x y (runIn ws p)))
+          → RecordFits (onward a (λ (p : Place). sampleIn m x y (runIn ws p)))
       go f (taken p) h = sample-words m x y (mesh-in-order m ws f) w (runIn ws p) _ refl
       go f (refused k p) h = h k p refl
 
@@ -85,15 +85,15 @@ module _ (m : Mesh) (ws : List ℕ) (x y : Float) (w : (i : ℕ) → getD (m .sp
       go fine b e = refl
       go (fault k p) b e = absurd (never (sym e))
 
-  pub taken-words : (a : Sample) → topOf m ws x y ≡ taken a → InWords (taken a)
-  taken-words a e = subst InWords e (top-words (top-fine e))
+  pub taken-words : (a : Sample) → topOf m ws x y ≡ taken a → RecordFits (taken a)
+  taken-words a e = subst RecordFits e (top-words (top-fine e))
 
-pub plain-words : (m : Mesh) (x y : Float) (a : Sample) → plainSample (answerOf m x y) ≡ taken a → InWords (taken a)
+pub plain-words : (m : Mesh) (x y : Float) (a : Sample) → plainSample (answerOf m x y) ≡ taken a → RecordFits (taken a)
 unfolding answerOf plainOf judge plainSample
 plain-words m x y a e = go (meshFault m) refl e
   where
-    go : (f : Fault) → meshFault m ≡ f → plainSample (judge f (taken (plainOf m x y))) ≡ taken a → InWords (taken a)
-    go fine f e = subst InWords e (lookup-words m x y f _ refl)
+    go : (f : Fault) → meshFault m ≡ f → plainSample (judge f (taken (plainOf m x y))) ≡ taken a → RecordFits (taken a)
+    go fine f e = subst RecordFits e (lookup-words m x y f _ refl)
     go (fault k p) f e = absurd (never (sym e))
 
 -- ---- many points

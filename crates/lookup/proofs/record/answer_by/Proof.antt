@@ -3,7 +3,7 @@ use mathlib.Core.Path.{ap}
 use Rattle.shape.specs.Refusal.{leaves}
 use Rattle.lookup.specs.Sampler.{readSampled}
 use Rattle.lookup.specs.Batch.{readSampling}
-use Rattle.lookup.specs.Record.{recordAnswer, InWords}
+use Rattle.lookup.specs.Record.{recordAnswer, RecordFits}
 use borrow.Author.Needs.{needs}
 use Rattle.lookup.proofs.record.answer_by.Statement.{statement}
 use Rattle.lookup.proofs.record.answer_by.Tie as tie
@@ -15,7 +15,7 @@ enum-told : tie.Need-enum-told
 enum-told c = search needs
 
 put-front-requires : tie.Need-put-front-requires
-unfolding InWords readSampled
+unfolding RecordFits readSampled
 put-front-requires c κs = rw (c .before .enum-told .given .1) tt
 
 enum-known-s-2 : tie.Need-enum-known-s-2

@@ -10,18 +10,18 @@ use Rattle.lookup.specs.declared.sampler.Sampled.{Sampled}
 use Rattle.lookup.specs.declared.sampler.Sampled.the-variants.{Found, Refused}
 use Rattle.lookup.specs.Sampler.{readSampled}
 use Rattle.lookup.specs.Batch.{laneId, wordFor, recordOf}
-use Rattle.lookup.specs.Record.{InWords}
+use Rattle.lookup.specs.Record.{RecordFits}
 use Rattle.lookup.specs.Laws.Batch.{word-is}
 use borrow.Author.Needs.{needs}
 use Rattle.lookup.proofs.record.put_record.Statement.{statement}
 use Rattle.lookup.proofs.record.put_record.Tie as tie
 
-found-words : {s : Sampled} {h : Float} {n : Vector} {t : ℕ} {l : Lane} → s ≡ Found h n t l → InWords (readSampled s) → (t < 4294967296) × (laneId l < 4294967296)
-unfolding InWords readSampled
+found-words : {s : Sampled} {h : Float} {n : Vector} {t : ℕ} {l : Lane} → s ≡ Found h n t l → RecordFits (readSampled s) → (t < 4294967296) × (laneId l < 4294967296)
+unfolding RecordFits readSampled
 found-words e w = rw e at w
 
-refused-words : {s : Sampled} {r : Refusal} → s ≡ Refused r → InWords (readSampled s) → placeOf r < 4294967296
-unfolding InWords readSampled
+refused-words : {s : Sampled} {r : Refusal} → s ≡ Refused r → RecordFits (readSampled s) → placeOf r < 4294967296
+unfolding RecordFits readSampled
 refused-words e w = rw e at w
 
 enum-known-s : tie.Need-enum-known-s

@@ -9,7 +9,7 @@ use Rattle.shape.specs.Refusal.{taken, numberOf, placeOf}
 use Rattle.shape.specs.Laws.Memory.{put-none, put-turn, put-length}
 use Rattle.lookup.specs.Sampler.{miss, readSampled}
 use Rattle.lookup.specs.Batch.{recordOf, readSampling}
-use Rattle.lookup.specs.Record.{InWords}
+use Rattle.lookup.specs.Record.{RecordFits}
 use Rattle.lookup.proofs.Batches.{record-next, same-eight, count-short, count-all}
 use borrow.Author.Needs.{needs}
 use Rattle.lookup.proofs.sampler.tops_empty.Statement.{statement}
@@ -36,7 +36,7 @@ unfolding gather
 loop-holds c = (put-none _ 0, (omega arith, omega arith))
 
 put-record-requires : tie.Need-put-record-requires Inv-loop μ-loop
-unfolding InWords readSampled
+unfolding RecordFits readSampled
 put-record-requires c κs =
     let l = c .before .before .loop .inv in
     let p = put-length (l .0) in
