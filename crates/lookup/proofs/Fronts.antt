@@ -8,9 +8,9 @@ use Rattle.rounding.specs.Column.{col}
 use Rattle.rounding.specs.Laws.Column.{col-lt}
 use Rattle.shape.specs.Refusal.{fine, fault, taken, refused, numberOf, placeOf}
 use Rattle.shape.specs.declared.refusal.Refusal.{Refusal}
-use Rattle.lookup.specs.declared.grid.Front.{Front}
-use Rattle.lookup.specs.declared.grid.Opened.{Opened}
-use Rattle.lookup.specs.declared.grid.Opened.the-variants.{Open, Empty, Foreign}
+use Rattle.lookup.specs.declared.consult.Front.{Front}
+use Rattle.lookup.specs.declared.consult.Opened.{Opened}
+use Rattle.lookup.specs.declared.consult.Opened.the-variants.{Open, Empty, Foreign}
 use Rattle.lookup.specs.Consult.{wordAt, floatAt, cellAt, firstAt, headFault, nowhere, consultOf}
 use Rattle.lookup.specs.Steps.{Sided, frontOf, Ready, Opens}
 use Rattle.lookup.specs.Laws.Heads.{grid-small, consult-refused}

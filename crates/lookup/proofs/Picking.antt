@@ -14,12 +14,12 @@ use Rattle.lookup.specs.Box.{aroundOf, grownOf, grownBox, boxOf, mergeOf
 use Rattle.lookup.specs.Index.{blockOf, blocksOf}
 use Rattle.lookup.specs.declared.mesh.Fetch.{Fetch}
 use Rattle.lookup.specs.declared.mesh.Fetch.the-variants.{Corners, Missing}
-use Rattle.lookup.specs.declared.grid.Frame.{Frame}
-use Rattle.lookup.specs.declared.grid.Block.{Block}
+use Rattle.lookup.specs.declared.frame.Frame.{Frame}
+use Rattle.lookup.specs.declared.frame.Block.{Block}
 use Rattle.lookup.specs.Steps.{Picked, Sound}
-use Rattle.lookup.specs.declared.grid.Bounds.{Bounds}
-use Rattle.lookup.specs.declared.grid.Boxed.{Boxed}
-use Rattle.lookup.specs.declared.grid.Boxed.the-variants.{Box, None}
+use Rattle.lookup.specs.declared.boxes.Bounds.{Bounds}
+use Rattle.lookup.specs.declared.boxes.Boxed.{Boxed}
+use Rattle.lookup.specs.declared.boxes.Boxed.the-variants.{Box, None}
 
 -- ---- two numbers
 

@@ -23,10 +23,10 @@ use Rattle.lookup.specs.Laws.Cells.{start-area}
 use Rattle.lookup.specs.Laws.Frames.{inside-of}
 use Rattle.lookup.specs.declared.mesh.Fetch.{Fetch}
 use Rattle.lookup.specs.declared.mesh.Fetch.the-variants.{Corners, Missing}
-use Rattle.lookup.specs.declared.grid.Bounds.{Bounds}
-use Rattle.lookup.specs.declared.grid.Boxed.{Boxed}
-use Rattle.lookup.specs.declared.grid.Boxed.the-variants.{Box, None}
-use Rattle.lookup.specs.declared.grid.Frame.{Frame}
+use Rattle.lookup.specs.declared.boxes.Bounds.{Bounds}
+use Rattle.lookup.specs.declared.boxes.Boxed.{Boxed}
+use Rattle.lookup.specs.declared.boxes.Boxed.the-variants.{Box, None}
+use Rattle.lookup.specs.declared.frame.Frame.{Frame}
 
 -- ---- sums with w
 

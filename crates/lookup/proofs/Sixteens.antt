@@ -17,8 +17,8 @@ use Rattle.vector.specs.Single.{0f}
 use Rattle.vector.specs.declared.coords.Point.{Point}
 use Rattle.shape.specs.Refusal.{fine, Answer, taken, refused, numberOf, placeOf}
 use Rattle.shape.specs.declared.refusal.Refusal.{Refusal}
-use Rattle.lookup.specs.declared.grid.Consulted.{Consulted}
-use Rattle.lookup.specs.declared.grid.Consulted.the-variants.{Run, Nowhere, Refused}
+use Rattle.lookup.specs.declared.consult.Consulted.{Consulted}
+use Rattle.lookup.specs.declared.consult.Consulted.the-variants.{Run, Nowhere, Refused}
 use Rattle.lookup.specs.declared.mesh.Fetch.the-variants.{Corners, Missing}
 use Rattle.lookup.specs.declared.mesh.Best.{Best}
 use Rattle.lookup.specs.declared.mesh.Best.the-variants.{At, Nothing}

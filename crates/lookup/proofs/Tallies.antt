@@ -19,9 +19,9 @@ use Rattle.lookup.specs.Box.{aroundOf, grownOf, grownBox, boxOf, mergeOf
 use Rattle.lookup.specs.Frame.{joinOf, oneOf, boxesOf, extentOf}
 use Rattle.lookup.specs.Steps.{Picked, Sound, Tallied, Fits, Narrow}
 use Rattle.lookup.specs.declared.mesh.Fetch.the-variants.{Corners, Missing}
-use Rattle.lookup.specs.declared.grid.Bounds.{Bounds}
-use Rattle.lookup.specs.declared.grid.Boxed.{Boxed}
-use Rattle.lookup.specs.declared.grid.Boxed.the-variants.{Box, None}
+use Rattle.lookup.specs.declared.boxes.Bounds.{Bounds}
+use Rattle.lookup.specs.declared.boxes.Boxed.{Boxed}
+use Rattle.lookup.specs.declared.boxes.Boxed.the-variants.{Box, None}
 use Rattle.lookup.proofs.Picking.{box-inj, none-no-box, box-quick}
 
 pub one-le : (b : Boxed) → oneOf b ≤ 1

@@ -8,8 +8,8 @@ use lib.Dec.{leb, ltb, eqb}
 use lib.Ieee.{Float, binary32, ofBits, le}
 use Rattle.rounding.specs.Column.{col}
 use Rattle.shape.specs.Refusal.{Fault, fine, fault, refuse, Answer, taken, refused, judge, numberOf, placeOf}
-use Rattle.lookup.specs.declared.grid.Consulted.{Consulted}
-use Rattle.lookup.specs.declared.grid.Consulted.the-variants.{Run, Nowhere, Refused}
+use Rattle.lookup.specs.declared.consult.Consulted.{Consulted}
+use Rattle.lookup.specs.declared.consult.Consulted.the-variants.{Run, Nowhere, Refused}
 
 -- word i, and the single that it stands for
 abbrev pub wordAt : List ℕ → ℕ → ℕ

@@ -9,10 +9,10 @@ use Rattle.rounding.specs.Root.{sqrtOf}
 use Rattle.rounding.specs.Whole.{wholeOf, ceilOf}
 use Rattle.vector.specs.Single.{_⊖_, _⊗_, _⊘_, single, 1f}
 use Rattle.lookup.specs.Box.{boxOf, mergeOf}
-use Rattle.lookup.specs.declared.grid.Bounds.{Bounds}
-use Rattle.lookup.specs.declared.grid.Boxed.{Boxed}
-use Rattle.lookup.specs.declared.grid.Boxed.the-variants.{Box, None}
-use Rattle.lookup.specs.declared.grid.Frame.{Frame}
+use Rattle.lookup.specs.declared.boxes.Bounds.{Bounds}
+use Rattle.lookup.specs.declared.boxes.Boxed.{Boxed}
+use Rattle.lookup.specs.declared.boxes.Boxed.the-variants.{Box, None}
+use Rattle.lookup.specs.declared.frame.Frame.{Frame}
 
 -- the box around what two have
 unfoldable pub joinOf : Boxed → Boxed → Boxed

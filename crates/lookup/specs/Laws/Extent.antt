@@ -24,9 +24,9 @@ use Rattle.lookup.specs.Frame.{joinOf, extentOf, countOf, milli, cellOf}
 use Rattle.lookup.specs.Laws.Parts.{cases}
 use Rattle.lookup.specs.declared.mesh.Fetch.{Fetch}
 use Rattle.lookup.specs.declared.mesh.Fetch.the-variants.{Corners, Missing}
-use Rattle.lookup.specs.declared.grid.Bounds.{Bounds}
-use Rattle.lookup.specs.declared.grid.Boxed.{Boxed}
-use Rattle.lookup.specs.declared.grid.Boxed.the-variants.{Box, None}
+use Rattle.lookup.specs.declared.boxes.Bounds.{Bounds}
+use Rattle.lookup.specs.declared.boxes.Boxed.{Boxed}
+use Rattle.lookup.specs.declared.boxes.Boxed.the-variants.{Box, None}
 
 -- ---- the extent holds each box
 

@@ -16,7 +16,7 @@ use Rattle.rounding.specs.Laws.Column.{col-lt}
 use Rattle.shape.specs.Refusal.{Fault, fine, fault, refuse, Answer, taken, refused}
 use Rattle.lookup.specs.Consult.{wordAt, floatAt, sides, declares, headFault, inside, cellAt, orElse, entryFault, startAt, firstAt, startFault, Place, nowhere, run, runOf, consultOf}
 use Rattle.lookup.specs.Steps.{Sided, spotOf}
-use Rattle.lookup.specs.declared.grid.Spot.the-variants.{Cell, Outside}
+use Rattle.lookup.specs.declared.consult.Spot.the-variants.{Cell, Outside}
 use Rattle.lookup.specs.Laws.Parts.{both}
 
 -- a test that lets a call through

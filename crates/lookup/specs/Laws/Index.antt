@@ -29,10 +29,10 @@ use Rattle.lookup.specs.Laws.Frames.{framed, inside-of}
 use Rattle.lookup.specs.Laws.Reading.{length-index, index-start, index-run, Stands, run-of, run-holds, run-rises}
 use Rattle.lookup.specs.Laws.Heads.{sides-fine, head-fine, head-none, entry-none, entry-step, run-fine, consult-none, consult-out, consult-in}
 use Rattle.lookup.specs.Laws.Extent.{Around, InExtent, extent-holds, Fit, Fits, extent-fits, cell-width, cell-back, box-there}
-use Rattle.lookup.specs.declared.grid.Bounds.{Bounds}
-use Rattle.lookup.specs.declared.grid.Boxed.{Boxed}
-use Rattle.lookup.specs.declared.grid.Boxed.the-variants.{Box, None}
-use Rattle.lookup.specs.declared.grid.Frame.{Frame}
+use Rattle.lookup.specs.declared.boxes.Bounds.{Bounds}
+use Rattle.lookup.specs.declared.boxes.Boxed.{Boxed}
+use Rattle.lookup.specs.declared.boxes.Boxed.the-variants.{Box, None}
+use Rattle.lookup.specs.declared.frame.Frame.{Frame}
 
 -- consulted at (x, y), the words hand over a run
 pub record Hands (ws : List ℕ) (count : ℕ) (x y : Float) (given : List ℕ) : Type 0 where
