@@ -85,8 +85,6 @@ fn vector_answer(check: &str, w: &[u32]) -> Vec<u32> {
         "normalize_or_zero" => v.normalize_or_zero().words(),
         "length_squared" => single(v.dot(v)),
         "length_below_micro" => vec![(v.length() < 1e-6) as u32],
-        "length_above_micro" => vec![(v.length() > 1e-6) as u32],
-        "length_above_tenth" => vec![(v.length() > 0.1) as u32],
         _ => panic!("no check {check}"),
     }
 }
@@ -103,7 +101,6 @@ fn answer(check: &str, w: &[u32]) -> Vec<u32> {
         "is_finite32" => vec![f(0).is_finite() as u32],
         "is_finite64" => vec![d(0).is_finite() as u32],
         "root_below_micro" => vec![(f(0).sqrt() < 1e-6) as u32],
-        "root_above_micro" => vec![(f(0).sqrt() > 1e-6) as u32],
         "root_above_tenth" => vec![(f(0).sqrt() > 0.1) as u32],
         "squares" => double(squares(f(0), f(1))),
         "hypot_above_milli" => vec![(hypot(f(0), f(1)) > 1e-3) as u32],

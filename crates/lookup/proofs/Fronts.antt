@@ -4,8 +4,8 @@ use mathlib.Core.List.{List}
 use Prim.Native.Nat.{ℕ, _+_, _*_, _≤_, _<_}
 use native.Mathlib.Omega.{arith}
 use lib.Ieee.{Float, binary32}
-use Rattle.rounding.specs.Column.{col}
-use Rattle.rounding.specs.Laws.Column.{col-lt}
+use Rattle.lookup.specs.Column.{col}
+use Rattle.lookup.specs.Laws.Column.{col-lt}
 use Rattle.shape.specs.Refusal.{fine, fault, taken, refused, numberOf, placeOf}
 use Rattle.shape.specs.declared.refusal.Refusal.{Refusal}
 use Rattle.lookup.specs.declared.consult.Front.{Front}

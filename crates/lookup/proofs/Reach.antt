@@ -9,9 +9,9 @@ use native.Mathlib.Omega.{arith}
 use lib.Dec.{T}
 use lib.Ieee.{Float, nan, inf, fin, binary32, add, sub, lt, le, fits}
 use lib.Ieee.Fits.{add-fits}
-use Rattle.rounding.specs.Column.{col}
+use Rattle.lookup.specs.Column.{col}
 use Rattle.rounding.specs.Laws.Order.{IsNum, le-bottom, le-or-lt, le-of-lt, le-num-left, le-num-right, lt-num-left, lt-of-le-of-lt}
-use Rattle.rounding.specs.Laws.Column.{Width, col-mono, col-lt, low-bucket}
+use Rattle.lookup.specs.Laws.Column.{Width, col-mono, col-lt, low-bucket}
 use Rattle.rounding.specs.Laws.Past.{past}
 use Rattle.rounding.specs.Laws.Sums.{add-num, add-num-left, sub-num-right, add-mono-left}
 use Rattle.lookup.specs.Mesh.{cornersOf}

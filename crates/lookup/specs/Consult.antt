@@ -6,10 +6,8 @@ use mathlib.Core.List.{List, []}
 use lib.ListN.{length, getD, take, drop}
 use lib.Dec.{leb, ltb, eqb}
 use lib.Ieee.{Float, binary32, ofBits, le}
-use Rattle.rounding.specs.Column.{col}
+use Rattle.lookup.specs.Column.{col}
 use Rattle.shape.specs.Refusal.{Fault, fine, fault, refuse, Answer, taken, refused, judge, numberOf, placeOf}
-use Rattle.lookup.specs.declared.consult.Consulted.{Consulted}
-use Rattle.lookup.specs.declared.consult.Consulted.the-variants.{Run, Nowhere, Refused}
 
 -- word i, and the single that it stands for
 abbrev pub wordAt : List ℕ → ℕ → ℕ
@@ -99,10 +97,3 @@ unfolding judge
 consultOf ws count x y =
     judge (headFault ws count)
     (cond (not (eqb (wordAt ws 1) 0) && inside ws x y) (runOf ws count (cellAt ws x y)) (taken nowhere))
-
--- the paper's values of what `consult` answers
-unfoldable pub readConsulted : Consulted → Answer Place
-unfolding numberOf placeOf
-readConsulted (Run a e) = taken (run a e)
-readConsulted Nowhere = taken nowhere
-readConsulted (Refused r) = refused (numberOf r) (placeOf r)

@@ -4,6 +4,7 @@ pub mod Plain
 pub mod Tables
 pub mod Parts
 pub mod Cells
+pub mod Column
 pub mod Frames
 pub mod Reading
 pub mod Heads

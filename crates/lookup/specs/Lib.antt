@@ -6,6 +6,7 @@ pub mod Sixteen
 pub mod Winner
 pub mod Box
 pub mod Frame
+pub mod Column
 pub mod Index
 pub mod Consult
 pub mod Steps

@@ -9,9 +9,9 @@ ghost use Prim.Native.Nat.{ℕ, _+_, _-_, _*_, _<_, _≤_, _^_, min};
 ghost use lib.ListN.{length};
 ghost use lib.Dec.{T};
 ghost use lib.Ieee.{Float, binary32, fits, lt, le, sub, toUnsigned};
-ghost use Rattle.rounding.specs.Column.{col};
+ghost use Rattle.lookup.specs.Column.{col};
 ghost use Rattle.rounding.specs.Extremes.{minOf, maxOf};
-ghost use Rattle.rounding.specs.Laws.Column.{Width};
+ghost use Rattle.lookup.specs.Laws.Column.{Width};
 ghost use Rattle.lookup.specs.Mesh.{triangles};
 ghost use Rattle.lookup.specs.Box.{aroundOf, mergeOf, boxOf};
 ghost use Rattle.lookup.specs.declared.boxes.Boxed.the-variants.{Box};
@@ -26,9 +26,9 @@ use crate::frame::Block;
 use crate::frame::Frame;
 use crate::frame::column;
 use crate::frame::single;
-use crate::frame::wide;
 use crate::mesh::Fetch;
 use crate::mesh::corners;
+use rounding::bits::wide;
 use vector::coords::Point;
 
 // ---- boxes

@@ -4,11 +4,12 @@ ghost use mathlib.Core.Path.{_≡_};
 ghost use mathlib.Core.List.{List};
 ghost use Prim.Native.Nat.{ℕ, _-_, _<_, _≤_, _^_};
 ghost use lib.ListN.{getD, take, drop};
-ghost use Rattle.shape.specs.Refusal.{Answer, fine, found};
-ghost use Rattle.lookup.specs.Consult.{Place, floatAt, headFault, entryFault, runOf, consultOf, readConsulted};
-ghost use Rattle.lookup.specs.Steps.{Opens, Started, from, Sided, frontOf, spotOf};
+ghost use Rattle.shape.specs.Refusal.{fine, found};
+ghost use Rattle.lookup.specs.Consult.{floatAt, headFault, entryFault, runOf, consultOf};
+ghost use Rattle.lookup.specs.Steps.{Opens, Started, Sided, frontOf, spotOf};
 use crate::frame::column;
 use rounding::bits::from_bits32;
+use shape::lists::least;
 use shape::lists::word_at;
 use shape::refusal::Check;
 use shape::refusal::Refusal;
@@ -113,7 +114,7 @@ fn front_of(index: &[u32]) -> Front
 }
 
 // Looks at the first words of an index of a mesh with `count` triangles, once for all points.
-pub fn open(index: &[u32], count: usize) -> Opened
+pub(crate) fn open(index: &[u32], count: usize) -> Opened
     ensures { λ r. ⌜ Opens (now (index .entry)) count r ⌝ }
 {
     let check = head_fault(index, count);
@@ -181,7 +182,7 @@ pub(crate) fn locate(index: &[u32], h: Front, x: f32, y: f32) -> Consulted
 // ---- the entries
 
 // The first of the entries from a place up to another that is no triangle.
-pub fn entry_fault(index: &[u32], count: usize, from: usize, to: usize) -> Check
+pub(crate) fn entry_fault(index: &[u32], count: usize, from: usize, to: usize) -> Check
     ensures { λ r. ⌜ found r ≡ entryFault (now (index .entry)) count from (to - from) ⌝ }
 {
     let mut i = from;
@@ -194,44 +195,11 @@ pub fn entry_fault(index: &[u32], count: usize, from: usize, to: usize) -> Check
     Check::Fine
 }
 
-// What is located, or its first entry that is no triangle.
-fn checked(index: &[u32], count: usize, located: Consulted) -> Consulted
-    ensures { λ r. ⌜ ((q : Answer Place) → Started (now (index .entry)) count q located → readConsulted r ≡ q) ⌝ }
-{
-    match located {
-        Consulted::Refused(r) => Consulted::Refused(r),
-        Consulted::Nowhere => Consulted::Nowhere,
-        Consulted::Run(a, e) => match entry_fault(index, count, a, e) {
-            Check::Faulty(r) => Consulted::Refused(r),
-            Check::Fine => Consulted::Run(a, e),
-        },
-    }
-}
-
-// Where the candidates of (x, y) stand in the index of a mesh with `count` triangles.
-pub fn consult(index: &[u32], count: usize, x: f32, y: f32) -> Consulted
-    ensures { λ r. ⌜ readConsulted r ≡ consultOf (now (index .entry)) count x y ⌝ }
-{
-    match open(index, count) {
-        Opened::Foreign(r) => Consulted::Refused(r),
-        Opened::Empty => Consulted::Nowhere,
-        Opened::Open(h) => checked(index, count, locate(index, h, x, y)),
-    }
-}
-
 // The part of the index from a to e, as far as there is one: the candidates, lent on.
 pub fn at(index: &[u32], a: usize, e: usize) -> &[u32]
     ensures { λ r. ⌜ now r ≡ take (e - a) (drop a (now (index .entry))) ⌝ }
 {
-    let n = index.len();
-    if e <= a {
-        return &index[n..n];
-    }
-    if n <= a {
-        return &index[n..n];
-    }
-    if n < e {
-        return &index[a..n];
-    }
-    &index[a..e]
+    let to = least(e, index.len());
+    let from = least(a, to);
+    &index[from..to]
 }

@@ -2,9 +2,10 @@
 ghost use mathlib.Core.Path.{_≡_};
 ghost use Prim.Native.Nat.{_+_, _-_, _*_, _<_, _≤_, min};
 ghost use lib.Ieee.{binary32, toUnsigned};
-ghost use Rattle.rounding.specs.Column.{col};
+ghost use Rattle.lookup.specs.Column.{col};
 ghost use Rattle.lookup.specs.Frame.{countOf, fineOf, sideOf, frameOf};
 use crate::boxes::Bounds;
+use rounding::bits::wide;
 use rounding::count::count32;
 use rounding::extremes::max32;
 use rounding::root::sqrt32;
@@ -77,13 +78,6 @@ pub(crate) fn frame_of(e: Bounds, count: u32) -> Frame
 }
 
 // ---- columns
-
-// A word as a place.
-pub(crate) fn wide(x: u32) -> usize
-    ensures { λ r. ⌜ r ≡ x ⌝ }
-{
-    x as usize
-}
 
 // The whole part of q, cut to a grid's last column. A NaN and what lies below 1 have 0. From 1 to 1,024
 // the whole part is the bits of the fraction, with the leading digit, less those that are worth under 1.

@@ -12,6 +12,7 @@ ghost use Rattle.lookup.specs.Cover.{slack, detOf, overA, weightA, weigh
 ghost use Rattle.lookup.specs.Plain.{higherOf, scanOf, entryOf, readAnswer, answerOf};
 ghost use Rattle.lookup.specs.Sixteen.{groundAt, Grounded, Gathered, AllLow, Passing, Weighed, Weighs, Poised, HitOf};
 ghost use Rattle.lookup.specs.declared.mesh.Best.the-variants.{At, Nothing};
+use rounding::bits::wide;
 use rounding::extremes::abs32;
 use shape::lists::mesh_fault;
 use shape::lists::vector_at;
@@ -52,12 +53,6 @@ pub enum Answer {
     Found(f32, Vector, usize),
     None,
     Refused(Refusal),
-}
-
-fn wide(i: u32) -> usize
-    ensures { λ r. ⌜ r ≡ i ⌝ }
-{
-    i as usize
 }
 
 // Vertex i, which is there.

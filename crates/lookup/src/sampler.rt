@@ -27,6 +27,7 @@ use crate::mesh::highest_in;
 use crate::mesh::normal_by;
 use crate::record::RECORD_WORDS;
 use crate::record::put_record;
+use rounding::bits::wide;
 use shape::lists::mesh_fault;
 use shape::lists::record_word;
 use shape::refusal::Check;
@@ -134,12 +135,6 @@ fn oversize(r: Refusal) -> bool
         Refusal::ForeignIndex(word) => false,
         Refusal::BadRecord(record) => false,
     }
-}
-
-fn wide(x: u32) -> usize
-    ensures { λ r. ⌜ r ≡ x ⌝ }
-{
-    x as usize
 }
 
 // Do the runs of m spans rise, each start from the last end and each end from its start, and do they

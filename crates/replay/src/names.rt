@@ -48,14 +48,11 @@ fn check_name(k: u32) {
         return;
     }
     let k = k - 7;
-    if k < 4 {
-        word_of(
-            b"root_below_micro root_above_micro root_above_tenth squares",
-            k,
-        );
+    if k < 3 {
+        word_of(b"root_below_micro root_above_tenth squares", k);
         return;
     }
-    word_of(b"hypot_above_milli hypot_at_most_milli", k - 4);
+    word_of(b"hypot_above_milli hypot_at_most_milli", k - 3);
 }
 
 // The operations of the vector layer that the oracle has.
@@ -80,10 +77,7 @@ fn vector_check_name(k: u32) {
         word_of(b"vector_is_finite normalize_or_zero length_squared", k);
         return;
     }
-    word_of(
-        b"length_below_micro length_above_micro length_above_tenth point_is_finite",
-        k - 3,
-    );
+    word_of(b"length_below_micro point_is_finite", k - 3);
 }
 
 // The operations of the shape layer that the oracle has.
@@ -114,8 +108,8 @@ pub fn name(op: u32) {
         20..=26 => vector_name(op - 20),
         27..=37 => shape_name(op - 27),
         38..=45 => lookup_name(op - 38),
-        100..=112 => check_name(op - 100),
-        200..=214 => vector_check_name(op - 200),
+        100..=111 => check_name(op - 100),
+        200..=212 => vector_check_name(op - 200),
         327..=337 => {
             shape_name(op - 327);
             io::write_all(STDOUT_FILENO, b" at its limits");

@@ -16,7 +16,6 @@ use rounding::bits::bits64;
 use rounding::bits::stored;
 use rounding::compare::hypot_above_milli;
 use rounding::compare::hypot_at_most_milli;
-use rounding::compare::root_above_micro;
 use rounding::compare::root_above_tenth;
 use rounding::compare::root_below_micro;
 use rounding::count::count32;
@@ -81,7 +80,6 @@ fn test_single(op: u32, x: f32) -> bool {
     match op {
         105 => is_finite32(x),
         107 => root_below_micro(x),
-        108 => root_above_micro(x),
         _ => root_above_tenth(x),
     }
 }
@@ -147,8 +145,8 @@ pub fn may_panic(op: u32) -> bool {
 // How many words an operation takes, and 0 for one that is not known.
 pub fn takes(op: u32) -> usize {
     match op {
-        0..=3 | 9 | 16 | 100 | 102 | 103 | 105 | 107..=109 => 1,
-        4..=8 | 10 | 11 | 17..=19 | 101 | 104 | 106 | 110..=112 => 2,
+        0..=3 | 9 | 16 | 100 | 102 | 103 | 105 | 107 | 108 => 1,
+        4..=8 | 10 | 11 | 17..=19 | 101 | 104 | 106 | 109..=111 => 2,
         14 => 3,
         12 | 13 => 4,
         15 => 6,
@@ -188,8 +186,8 @@ fn from_singles(op: u32, x: f32, y: f32, made: &mut [u32]) -> usize {
     match op {
         10 | 11 => put_single(made, extreme_single(op, x, y)),
         19 => put_single(made, hypot(x, y)),
-        110 => put_double(made, squares(x, y)),
-        111 => put_test(made, hypot_above_milli(x, y)),
+        109 => put_double(made, squares(x, y)),
+        110 => put_test(made, hypot_above_milli(x, y)),
         _ => put_test(made, hypot_at_most_milli(x, y)),
     }
 }
@@ -201,7 +199,7 @@ pub fn work(op: u32, given: &[u32], made: &mut [u32]) -> usize {
         0 => 0,
         1 => from_single(op, single(given, 0), made),
         2 => match op {
-            10 | 11 | 19 | 110..=112 => from_singles(op, single(given, 0), single(given, 1), made),
+            10 | 11 | 19 | 109..=111 => from_singles(op, single(given, 0), single(given, 1), made),
             _ => from_double(op, double(given, 0), made),
         },
         3 => clamp_single(made, single(given, 0), single(given, 1), single(given, 2)),

@@ -15,7 +15,7 @@ use vector::geometry::left_normal;
 // How many words an operation takes, and 0 for one that is not known.
 pub fn takes(op: u32) -> usize {
     match op {
-        20 | 26 | 203 | 207..=214 => 3,
+        20 | 26 | 203 | 207..=212 => 3,
         202 => 4,
         21..=24 | 200 | 201 | 204..=206 => 6,
         25 => 8,
@@ -26,9 +26,7 @@ pub fn takes(op: u32) -> usize {
 fn test_vector(op: u32, v: Vector) -> bool {
     match op {
         208 => v.is_finite(),
-        211 => v.length_below_micro(),
-        212 => v.length_above_micro(),
-        _ => v.length_above_tenth(),
+        _ => v.length_below_micro(),
     }
 }
 
@@ -55,8 +53,8 @@ fn from_one(op: u32, given: &[u32], made: &mut [u32]) -> usize {
     match op {
         20 => put_single(made, vector(given, 0).length()),
         210 => put_single(made, vector(given, 0).length_squared()),
-        208 | 211..=213 => put_test(made, test_vector(op, vector(given, 0))),
-        214 => put_test(made, point(given, 0).is_finite()),
+        208 | 211 => put_test(made, test_vector(op, vector(given, 0))),
+        212 => put_test(made, point(given, 0).is_finite()),
         _ => put_vector(made, of_vector(op, vector(given, 0))),
     }
 }

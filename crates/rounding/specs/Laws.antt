@@ -14,7 +14,6 @@ pub mod WholeNearest
 pub mod Width
 pub mod Past
 pub mod Extremes
-pub mod Column
 pub mod Stored
 pub mod Isqrt
 pub mod RootNearest

@@ -6,7 +6,6 @@ pub mod Extremes
 pub mod Stored
 pub mod Hypot
 pub mod Thresholds
-pub mod Column
 pub mod Steps
 pub mod Examples
 pub mod Laws

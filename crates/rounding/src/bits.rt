@@ -44,6 +44,13 @@ pub fn bits64(x: f64) -> u64
     }
 }
 
+// A word as a place in a list.
+pub fn wide(x: u32) -> usize
+    ensures { λ r. ⌜ r ≡ x ⌝ }
+{
+    x as usize
+}
+
 // The bits of x as the index and the printed text store them: a NaN's as 7fc00000, any zero's as 0.
 pub fn stored(x: f32) -> u32
     ensures { λ r. ⌜ r ≡ storedOf x ⌝ }

@@ -17,13 +17,6 @@ pub fn root_below_micro(x: f32) -> bool
     x >= 0.0
 }
 
-// Is the root of x above 1e-6?
-pub fn root_above_micro(x: f32) -> bool
-    ensures { λ r. ⌜ r ≡ lt micro (sqrtOf binary32 x) ⌝ }
-{
-    x >= 1.00000021e-12
-}
-
 // Is the root of x above 0.1?
 pub fn root_above_tenth(x: f32) -> bool
     ensures { λ r. ⌜ r ≡ lt tenth (sqrtOf binary32 x) ⌝ }

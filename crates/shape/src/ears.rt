@@ -12,6 +12,7 @@ ghost use Rattle.shape.specs.Refusal.{leaves};
 ghost use Rattle.shape.specs.Ears.{before, after, cross, turnsLeft, inside, blocks, blocksAt, earOf, isEar, firstEar, earAt, lastEar, without, cutEars, upTo, earsOf, readEars, earsAnswer};
 ghost use Rattle.shape.specs.EarSteps.{Within, Cut};
 use crate::refusal::Refusal;
+use rounding::bits::wide;
 use vector::coords::Point;
 
 // How many ears there are, or why the call is turned back.
@@ -43,12 +44,6 @@ fn is_inside(a: Point, b: Point, c: Point, p: Point) -> bool
 }
 
 // ---- the points left, by their numbers in the ring
-
-pub(crate) fn wide(i: u32) -> usize
-    ensures { λ r. ⌜ r ≡ i ⌝ }
-{
-    i as usize
-}
 
 // Point i of the ring.
 pub(crate) fn point(ring: &[f32], i: usize) -> Point

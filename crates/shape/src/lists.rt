@@ -3,7 +3,7 @@
 // proof about indices; the checks of lists stand here alone.
 ghost use mathlib.Core.Path.{_≡_};
 ghost use mathlib.Core.Bool.{_||_, not};
-ghost use Prim.Native.Nat.{_+_, _-_, _*_, _%_, _^_, _≤_, _<_};
+ghost use Prim.Native.Nat.{_+_, _-_, _*_, _%_, _^_, _≤_, _<_, min};
 ghost use lib.Dec.{ltb, eqb};
 ghost use lib.ListN.{length, getD, take, drop};
 ghost use Rattle.shape.specs.Gather.{any};
@@ -67,21 +67,20 @@ pub fn single_or(xs: &[f32], i: usize, other: f32) -> f32
 
 // ---- parts
 
+// The lesser of two places.
+pub fn least(a: usize, b: usize) -> usize
+    ensures { λ r. ⌜ r ≡ min a b ⌝ }
+{
+    if a < b { a } else { b }
+}
+
 // The part of a list from a to e, as far as there is one.
 pub fn part(xs: &[f32], a: usize, e: usize) -> &[f32]
     ensures { λ r. ⌜ now r ≡ take (e - a) (drop a (now (xs .entry))) ⌝ }
 {
-    let n = xs.len();
-    if e <= a {
-        return &xs[n..n];
-    }
-    if n <= a {
-        return &xs[n..n];
-    }
-    if n < e {
-        return &xs[a..n];
-    }
-    &xs[a..e]
+    let to = least(e, xs.len());
+    let from = least(a, to);
+    &xs[from..to]
 }
 
 // ---- records and their runs

@@ -13,6 +13,7 @@ use crate::lists::word_at;
 use crate::mesh::no_area;
 use crate::refusal::Check;
 use crate::refusal::Refusal;
+use rounding::bits::wide;
 use rounding::extremes::is_finite32;
 use vector::coords::Point;
 
@@ -132,12 +133,6 @@ fn flat_or_fine(vertices: &[f32], a: usize, b: usize, c: usize) -> Finding
         return Finding::Flat;
     }
     Finding::Fine
-}
-
-fn wide(i: u32) -> usize
-    ensures { λ r. ⌜ r ≡ i ⌝ }
-{
-    i as usize
 }
 
 // Vertex i, which the list holds.

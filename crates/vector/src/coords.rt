@@ -1,7 +1,7 @@
 // The two coordinate types: a place, and a displacement between places.
 ghost use mathlib.Core.Path.{_≡_};
 ghost use lib.Ieee.{lt};
-ghost use Rattle.rounding.specs.Thresholds.{micro, tenth};
+ghost use Rattle.rounding.specs.Thresholds.{micro};
 ghost use Rattle.vector.specs.Coords.{
   pointSub,
   pointAdd,
@@ -185,25 +185,11 @@ impl Vector {
         sqrt32(self.length_squared())
     }
 
-    // Is the length below 1e-6? No root is taken for it, nor for the two tests that follow.
+    // Is the length below 1e-6? No root is taken for it.
     pub fn length_below_micro(self) -> bool
         ensures { λ r. ⌜ r ≡ lt (lengthOf self) micro ⌝ }
     {
         compare::root_below_micro(self.length_squared())
-    }
-
-    // Is the length above 1e-6?
-    pub fn length_above_micro(self) -> bool
-        ensures { λ r. ⌜ r ≡ lt micro (lengthOf self) ⌝ }
-    {
-        compare::root_above_micro(self.length_squared())
-    }
-
-    // Is the length above 0.1?
-    pub fn length_above_tenth(self) -> bool
-        ensures { λ r. ⌜ r ≡ lt tenth (lengthOf self) ⌝ }
-    {
-        compare::root_above_tenth(self.length_squared())
     }
 
     // This direction at unit length, or `fallback` where the length is zero or not finite. Most vectors

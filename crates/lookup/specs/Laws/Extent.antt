@@ -15,7 +15,7 @@ use lib.Ieee.Fits.{add-fits, sub-fits, div-fits}
 use Rattle.rounding.specs.Extremes.{minOf, maxOf}
 use Rattle.rounding.specs.Laws.Order.{IsNum, le-refl, le-trans, le-of-eq, le-num-left, le-num-right}
 use Rattle.rounding.specs.Laws.Extremes.{Picks, min-picks, max-picks}
-use Rattle.rounding.specs.Laws.Column.{Width, width-ge}
+use Rattle.lookup.specs.Laws.Column.{Width, width-ge}
 use Rattle.rounding.specs.Laws.Stored.{back, back-same}
 use Rattle.vector.specs.Single.{_⊘_}
 use Rattle.lookup.specs.Mesh.{triangles, present, cornersOf, cornerOf, indexOf}

@@ -11,8 +11,8 @@ use lib.Dec.{ltb, leb, eqb}
 use lib.ListN.{length}
 use lib.Arith.{digits-lt}
 use lib.Ieee.{Float, binary32, le}
-use Rattle.rounding.specs.Column.{col}
-use Rattle.rounding.specs.Laws.Column.{col-lt}
+use Rattle.lookup.specs.Column.{col}
+use Rattle.lookup.specs.Laws.Column.{col-lt}
 use Rattle.shape.specs.Refusal.{Fault, fine, fault, refuse, Answer, taken, refused}
 use Rattle.lookup.specs.Consult.{wordAt, floatAt, sides, declares, headFault, inside, cellAt, orElse, entryFault, startAt, firstAt, startFault, Place, nowhere, run, runOf, consultOf}
 use Rattle.lookup.specs.Steps.{Sided, spotOf}

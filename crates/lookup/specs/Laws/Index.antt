@@ -11,10 +11,10 @@ use lib.Dec.{T}
 use lib.ListN.{length, getD, take, drop, length-append}
 use lib.Seq.{getD-append-add, drop-append-add, getD-take, getD-drop}
 use lib.Ieee.{Float, binary32, fits, le}
-use Rattle.rounding.specs.Column.{col}
+use Rattle.lookup.specs.Column.{col}
 use Rattle.rounding.specs.Laws.Order.{T-of, le-trans, le-num-left, le-num-right}
-use Rattle.rounding.specs.Laws.Column.{Width, col-lt, col-between}
-use Rattle.rounding.specs.Laws.Stored.{back, back-le, le-back, col-back}
+use Rattle.lookup.specs.Laws.Column.{Width, col-lt, col-between, col-back}
+use Rattle.rounding.specs.Laws.Stored.{back, back-le, le-back}
 use Rattle.shape.specs.Lists.{Mesh}
 use Rattle.shape.specs.Refusal.{fine, taken, refused, leaves}
 use Rattle.lookup.specs.Mesh.{triangles}

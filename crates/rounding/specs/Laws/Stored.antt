@@ -1,19 +1,16 @@
--- A single that is stored as the index stores it and read back is the same number: only the sign of a zero is lost, and no order and no column turns on that.
+-- A single that is stored as the index stores it and read back is the same number: only the sign of a zero is lost, and no order turns on that.
 -- Assumes nothing.
 use mathlib.Core.Path.{_≡_, refl, sym, ap, _∙_, subst}
 use mathlib.Core.Logic.{_⊎_, inl, inr, ⊎-elim}
 use mathlib.Core.Bool.{Bool, true, false, cond}
-use Prim.Native.Nat.{ℕ}
 use lib.IntN.{pos}
 use lib.Dec.{T}
 use lib.Ieee.{Float, nan, inf, fin, Format, binary32, fits, ofBits, toBits, eq, le}
 use lib.Ieee.Bits.{ofBits-toBits}
 use lib.Ieee.Scale.{finite}
-use Rattle.rounding.specs.Column.{col}
 use Rattle.rounding.specs.Stored.{storedOf}
 use Rattle.rounding.specs.Laws.Basics.{same-test}
 use Rattle.rounding.specs.Laws.Order.{le-trans, le-of-eq, ge-of-eq, eq-sym, eq-trans}
-use Rattle.rounding.specs.Laws.Column.{Width, col-equal}
 
 -- what is read back
 abbrev pub back : Float → Float
@@ -22,12 +19,12 @@ back x = ofBits binary32 (storedOf x)
 abbrev zero : Float
 zero = fin false 0 (pos 0)
 
--- x itself, or a zero for a zero
-record Zeros (x y : Float) : Type 0 where
-  left : T (finite x)
-  right : T (finite y)
-  up : T (le x y)
-  down : T (le y x)
+-- finite, and equal as numbers
+pub record Zeros (x y : Float) : Type 0 where
+  pub left : T (finite x)
+  pub right : T (finite y)
+  pub up : T (le x y)
+  pub down : T (le y x)
 
 zero-finite : (x : Float) → T (eq x zero) → T (finite x)
 unfolding eq
@@ -52,7 +49,8 @@ back-zero : (x : Float) → eq x zero ≡ true → back x ≡ ofBits binary32 0
 unfolding storedOf
 back-zero x e = rw e
 
-either : (x : Float) → T (fits binary32 x) → (back x ≡ x) ⊎ Zeros (back x) x
+-- x itself, or a zero for a zero
+pub either : (x : Float) → T (fits binary32 x) → (back x ≡ x) ⊎ Zeros (back x) x
 either x h = go (eq x zero) refl
   where
     go : (b : Bool) → eq x zero ≡ b → (back x ≡ x) ⊎ Zeros (back x) x
@@ -70,9 +68,3 @@ le-back x p h =
     ⊎-elim (λ e. ap (λ (y : Float). le p y) e)
     (λ z. same-test (le p (back x)) (le p x) (λ l. le-trans p (back x) x l (z .up)) (λ l. le-trans p x (back x) l (z .down)))
     (either x h)
-
-pub col-back : (m cell : Float) (count : ℕ) (x : Float) → T (fits binary32 m) → Width cell → col binary32 (back m) cell count x ≡ col binary32 m cell count x
-col-back m cell count x h w =
-    ⊎-elim (λ e. ap (λ (y : Float). col binary32 y cell count x) e)
-    (λ z. col-equal binary32 (back m) m cell count x w (z .left) (z .right) (z .up) (z .down))
-    (either m h)

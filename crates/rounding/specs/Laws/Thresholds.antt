@@ -12,11 +12,6 @@ pub reaches-micro : Edge binary32 (λ v. le micro v) (ofBits binary32 0x2b8c_bcc
 unfolding sqrtOf ofBits le
 reaches-micro = record { C = 9223371; h = 86; lead = λ z. lit< tt; here = (refl, refl); prior = (refl, refl); passes = refl; fails = refl }
 
--- 1.00000021e-12 is the first whose root is above it
-pub passes-micro : Edge binary32 (λ v. lt micro v) (ofBits binary32 0x2b8c_bcce) (ofBits binary32 0x2b8c_bccd)
-unfolding sqrtOf ofBits lt
-passes-micro = record { C = 9223374; h = 86; lead = λ z. lit< tt; here = (refl, refl); prior = (refl, refl); passes = refl; fails = refl }
-
 -- 0.0100000016 is the first whose root is above 0.1
 pub passes-tenth : Edge binary32 (λ v. lt tenth v) (ofBits binary32 0x3c23_d70c) (ofBits binary32 0x3c23_d70b)
 unfolding sqrtOf ofBits lt

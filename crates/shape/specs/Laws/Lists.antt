@@ -2,7 +2,7 @@
 use mathlib.Core.Path.{_≡_, refl, sym, _∙_}
 use mathlib.Core.Bool.{false, _||_}
 use mathlib.Core.List.{List, [], _∷_}
-use Prim.Native.Nat.{ℕ, zero, suc, _+_, _-_, _*_, _≤_, _<_}
+use Prim.Native.Nat.{ℕ, zero, suc, _+_, _-_, _*_, _≤_, _<_, min}
 use native.Mathlib.Decide.{decLt}
 use native.Mathlib.Numerals.{sub-one}
 use native.Mathlib.Omega.{arith}
@@ -60,14 +60,36 @@ word-past w ws k j h = sym (List·getD-eq-default ws 0 h)
 -- ---- the part of a list from a to e
 
 module _ {A : Type 0} where
-  pub none : (a e : ℕ) (xs : List A) → e ≤ a → take (e - a) (drop a xs) ≡ []
+  none : (a e : ℕ) (xs : List A) → e ≤ a → take (e - a) (drop a xs) ≡ []
   none a e xs h = let z : e - a ≡ 0 = omega arith in rw z
 
-  pub past : (a e : ℕ) (xs : List A) → length xs ≤ a → take (e - a) (drop a xs) ≡ []
+  past : (a e : ℕ) (xs : List A) → length xs ≤ a → take (e - a) (drop a xs) ≡ []
   past a e xs h = rw (drop-of-length-le xs h) (take-nil (e - a))
 
-  pub cut : (a e : ℕ) (xs : List A) → length xs < e → take (length xs - a) (drop a xs) ≡ take (e - a) (drop a xs)
+  cut : (a e : ℕ) (xs : List A) → length xs < e → take (length xs - a) (drop a xs) ≡ take (e - a) (drop a xs)
   cut a e xs h = take-all (length xs - a) (drop a xs) (simp length-drop (omega arith)) ∙ sym (take-all (e - a) (drop a xs) (simp length-drop (omega arith)))
+
+  -- with both ends brought into the list
+  pub part-cut : (a e : ℕ) (xs : List A) → take (min e (length xs) - min a (min e (length xs))) (drop (min a (min e (length xs))) xs) ≡ take (e - a) (drop a xs)
+  part-cut a e xs =
+      elim (decLt a (min e (length xs))) [
+        | yes p ↦ let z : min a (min e (length xs)) ≡ a = omega arith in rw z (ended p)
+        | no p ↦ none (min a (min e (length xs))) (min e (length xs)) xs (omega arith) ∙ sym (empty p)
+      ]
+    where
+      ended : a < min e (length xs) → take (min e (length xs) - a) (drop a xs) ≡ take (e - a) (drop a xs)
+      ended p =
+          elim (decLt (length xs) e) [
+            | yes q ↦ let z : min e (length xs) ≡ length xs = omega arith in rw z (cut a e xs q)
+            | no q ↦ let z : min e (length xs) ≡ e = omega arith in rw z
+          ]
+
+      empty : (a < min e (length xs) → ⊥) → take (e - a) (drop a xs) ≡ []
+      empty p =
+          elim (decLt a e) [
+            | yes q ↦ past a e xs (omega arith)
+            | no q ↦ none a e xs (omega arith)
+          ]
 
 -- an element within a list is the same whatever stands for what is past the end
 pub getD-any {ℓ} : {A : Type ℓ} (l : List A) (i : ℕ) (d e : A) → i < length l → getD l i d ≡ getD l i e

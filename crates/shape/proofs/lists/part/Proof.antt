@@ -1,12 +1,15 @@
--- `shape::lists::part` meets its contract: the part is cut where the list ends. Assumes nothing.
-use mathlib.Core.Path.{sym, _∙_}
-use native.Mathlib.Omega.{arith}
+-- `shape::lists::part` meets its contract: both ends are brought into the list. Assumes nothing.
 use denote.Ref.{now}
-use lib.ListN.{length}
-use Rattle.shape.specs.Laws.Lists.{none, past, cut}
 use borrow.Author.Needs.{needs}
+use Rattle.shape.specs.Laws.Lists.{part-cut}
 use Rattle.shape.proofs.lists.part.Statement.{statement}
 use Rattle.shape.proofs.lists.part.Tie as tie
+
+least-requires : tie.Need-least-requires
+least-requires c κs = search needs
+
+least-requires-2 : tie.Need-least-requires-2
+least-requires-2 c κs = search needs
 
 mul-result : tie.Need-mul-result
 mul-result c = search needs
@@ -21,74 +24,18 @@ part-result-end : tie.Need-part-result-end
 part-result-end c = search needs
 
 returns : tie.Need-returns
-returns c = let a = c .before .before .args in none (length (now (a .xs))) (length (now (a .xs))) (now (a .xs)) (omega arith) ∙ sym (none (a .a) (a .e) (now (a .xs)) (c .before .if1 .taken))
-
-mul-result-2 : tie.Need-mul-result-2
-mul-result-2 c = search needs
-
-sub-result-2 : tie.Need-sub-result-2
-sub-result-2 c = search needs
-
-part-result-start-2 : tie.Need-part-result-start-2
-part-result-start-2 c = search needs
-
-part-result-end-2 : tie.Need-part-result-end-2
-part-result-end-2 c = search needs
-
-returns-2 : tie.Need-returns-2
-returns-2 c = let a = c .before .before .before .args in none (length (now (a .xs))) (length (now (a .xs))) (now (a .xs)) (omega arith) ∙ sym (past (a .a) (a .e) (now (a .xs)) (c .before .if2 .taken))
-
-mul-result-3 : tie.Need-mul-result-3
-mul-result-3 c = search needs
-
-sub-result-3 : tie.Need-sub-result-3
-sub-result-3 c = search needs
-
-part-result-start-3 : tie.Need-part-result-start-3
-part-result-start-3 c = search needs
-
-part-result-end-3 : tie.Need-part-result-end-3
-part-result-end-3 c = search needs
-
-returns-3 : tie.Need-returns-3
-returns-3 c = let a = c .before .before .before .before .args in cut (a .a) (a .e) (now (a .xs)) (c .before .if3 .taken)
-
-mul-result-4 : tie.Need-mul-result-4
-mul-result-4 c = search needs
-
-sub-result-4 : tie.Need-sub-result-4
-sub-result-4 c = search needs
-
-part-result-start-4 : tie.Need-part-result-start-4
-part-result-start-4 c = search needs
-
-part-result-end-4 : tie.Need-part-result-end-4
-part-result-end-4 c = search needs
-
-returns-4 : tie.Need-returns-4
-returns-4 c = search needs
+returns c =
+    let a = c .before .before .before .before .args in
+    rw (c .before .least2 .ensures, c .before .before .least .ensures) (part-cut (a .a) (a .e) (now (a .xs)))
 
 pub part-spec : {M : Type 1} → statement M
 part-spec =
     tie.close
     (tie.spec
+    least-requires
+    least-requires-2
     mul-result
     sub-result
     part-result-start
     part-result-end
-    returns
-    mul-result-2
-    sub-result-2
-    part-result-start-2
-    part-result-end-2
-    returns-2
-    mul-result-3
-    sub-result-3
-    part-result-start-3
-    part-result-end-3
-    returns-3
-    mul-result-4
-    sub-result-4
-    part-result-start-4
-    part-result-end-4
-    returns-4)
+    returns)

@@ -1,27 +1,28 @@
 -- The column of a grid that a coordinate x falls into: floor ((x - m) / cell), cut to the range of the grid. It keeps the order, whatever m is, for every cell that is not negative:
 -- where a nan comes up, the column is 0 and no smaller x has a larger one. Assumes nothing.
 use mathlib.Core.Path.{_≡_, refl, sym, ap, _∙_}
-use mathlib.Core.Logic.{_⊎_, inl, inr}
+use mathlib.Core.Logic.{_⊎_, inl, inr, ⊎-elim}
 use Prim.Native.Nat.{ℕ, zero, suc, _+_, _-_, _*_, _^_, _≤_, _<_, min, zero-le}
 use native.Mathlib.Nat.{mul-pos, zero-mul, zero-min}
 use native.Mathlib.Omega.{arith}
 use mathlib.Core.Bool.{Bool, true, false, _||_, cond, true≢false}
 use lib.IntN.{ℤ, pos, negsuc}
 use lib.Dec.{T, eqb, eqb·suc-zero}
-use lib.Ieee.{Float, nan, inf, fin, Format, binary32, up, down, round, sub, div, unlike, lt, le, isNan, toUnsigned}
+use lib.Ieee.{Float, nan, inf, fin, Format, binary32, fits, up, down, round, sub, div, unlike, lt, le, isNan, toUnsigned}
 use lib.Ieee.Fits.{up-pos, down-pos, div-fits}
 use lib.Ieee.Exact.{HasValue}
 use lib.Ieee.Positive.{above, above-of-le, positive}
 use Rattle.rounding.specs.Whole.{floorOf}
-use Rattle.rounding.specs.Column.{bucket, col}
+use Rattle.lookup.specs.Column.{bucket, col}
 use Rattle.rounding.specs.Laws.Order.{Le, le→Le, Le→le, Le-right, le-of-lt}
 use Rattle.rounding.specs.Laws.Basics.{or-split}
 use Rattle.rounding.specs.Laws.Rounding.{Signed, round-signed, round-zero, zero-of}
 use lib.Ieee.Scale.{finite}
 use Rattle.rounding.specs.Laws.Sums.{sub-mono-left, sub-anti-right, sub-num}
 use Rattle.rounding.specs.Laws.Quotients.{div-Le, div-fin, unlike-false}
 use Rattle.rounding.specs.Laws.Count.{Low, low-cast, toUnsigned-mono}
 use Rattle.rounding.specs.Laws.Whole.{cast-floor}
+use Rattle.rounding.specs.Laws.Stored.{back, either}
 
 -- the order, or the smaller is `Low`
 abbrev Weak : Float → Float → Type 0
@@ -264,3 +265,10 @@ col-equal f m n cell count x w p q h k =
     let a = weak-bucket f (sub f x n) (sub f x m) cell count w (weak-sub-right f x m n p q h) in
     let b = weak-bucket f (sub f x m) (sub f x n) cell count w (weak-sub-right f x n m q p k) in
     omega arith
+
+-- ---- an edge that is stored and read back has the same columns: only the sign of a zero is lost
+pub col-back : (m cell : Float) (count : ℕ) (x : Float) → T (fits binary32 m) → Width cell → col binary32 (back m) cell count x ≡ col binary32 m cell count x
+col-back m cell count x h w =
+    ⊎-elim (λ e. ap (λ (y : Float). col binary32 y cell count x) e)
+    (λ z. col-equal binary32 (back m) m cell count x w (z .left) (z .right) (z .up) (z .down))
+    (either m h)
