@@ -49,7 +49,7 @@ lane-word ss w t =
 module _ (m : Mesh) (x y : Float) (f : meshFault m ≡ fine) where
   triangle-word : (seq : ℕ → ℕ) (n : ℕ) {h : Float} {t : ℕ} → scanOf (m .vertices) (m .indices) x y seq n ≡ At h t → t < 4294967296
   triangle-word seq n {h} {t} e =
-      let l = covers-below m x y t (scan-found (m .vertices) (m .indices) x y seq n e .covered) in
+      let l = covers-below m x y t (scan-found (m .vertices) (m .indices) x y seq n e .counted) in
       let o = in-order m f in
       omega (arith, l, o .indices)
 

@@ -116,7 +116,7 @@ module _ (m : Mesh) (ws : List ℕ) (x y : Float) (h : Float) (n : Vector) (t : 
           let v : g ≡ h = cc in
           let w : normal m x y j ≡ n = cc in
           let o : laneOf (m .spans) j ≡ l = cc in
-          rw (← u, ← v, ← w, ← o) (record { covered = f .covered; is-height = f .height; is-normal = refl; is-lane = refl })
+          rw (← u, ← v, ← w, ← o) (record { covered = f .counted; is-height = f .height; is-normal = refl; is-lane = refl })
       go Nothing q z = let u : _≡_ {A = ℕ} 0 1 = cc in absurd (omega arith)
 
   pub hit-held : topOf m ws x y ≡ taken (hit h n t l) → Held m x y h n t l
