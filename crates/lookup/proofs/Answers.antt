@@ -43,6 +43,6 @@ module _ (m : Mesh) (ws : List ℕ) (x y : Float) (f : topFault m ws ≡ fine) w
   pub small : {r : List ℕ} (q : List ℕ) → r ≡ q → (s : Best) → s ≡ scanOf (m .vertices) (m .indices) x y (entryOf r) (length r) → Small s
   unfolding Small
   small {r} q u (At h t) v =
-      let l = covers-below m x y t (scan-found (m .vertices) (m .indices) x y (entryOf r) (length r) (sym v) .covered) in
+      let l = covers-below m x y t (scan-found (m .vertices) (m .indices) x y (entryOf r) (length r) (sym v) .counted) in
       omega (arith, l, ordered .indices)
   small q u Nothing v = tt

@@ -15,26 +15,26 @@ use Rattle.shape.specs.Laws.Memory.{sets-front}
 use Rattle.lookup.specs.Mesh.{triangles}
 use Rattle.lookup.specs.Consult.{headFault}
 use Rattle.lookup.specs.Sampler.{Sample, topFault, topOf}
-use Rattle.lookup.specs.Batch.{recordOf, recordAt, recordsOf, pointsIn, countAnswer, topsOf}
+use Rattle.lookup.specs.Batch.{recordWords, recordOf, recordAt, recordsOf, pointsIn, countAnswer, topsOf}
 use Rattle.lookup.specs.Record.{roomFor}
-use Rattle.lookup.specs.Laws.Batch.{record-eight}
+use Rattle.lookup.specs.Laws.Batch.{record-width}
 
-pub record-next : (a : Answer Sample) {old now : List ℕ} {at next : ℕ} → Put old now at (recordOf a) next → next ≡ at + 8
-record-next a p = p .ends ∙ ap (_+_ _) (record-eight a)
+pub record-next : (a : Answer Sample) {old now : List ℕ} {at next : ℕ} → Put old now at (recordOf a) next → next ≡ at + recordWords
+record-next a p = p .ends ∙ ap (_+_ _) (record-width a)
 
 -- ---- one point
 
 module _ (n : ℕ) (old : List ℕ) where
-  pub front-short : length old < 8 → (r : List ℕ) → (refused 3 8 ≡ roomFor n (length old)) × (old ≡ leaves (roomFor n (length old)) r old)
+  pub front-short : length old < recordWords → (r : List ℕ) → (refused 3 recordWords ≡ roomFor n (length old)) × (old ≡ leaves (roomFor n (length old)) r old)
   unfolding roomFor judge leaves refuse
-  front-short h r = (rw (lt-ltb (length old) 8 h), rw (lt-ltb (length old) 8 h))
+  front-short h r = (rw (lt-ltb (length old) recordWords h), rw (lt-ltb (length old) recordWords h))
 
-  pub front-put : (a : Answer Sample) {now : List ℕ} {next : ℕ} → 8 ≤ length old → Put old now 0 (recordOf a) next
+  pub front-put : (a : Answer Sample) {now : List ℕ} {next : ℕ} → recordWords ≤ length old → Put old now 0 (recordOf a) next
       → (taken n ≡ roomFor n (length old)) × (now ≡ leaves (roomFor n (length old)) (recordOf a) old)
   unfolding roomFor judge leaves refuse
   front-put a h p = (
-    rw (le-ltb (length old) 8 h),
-    rw (le-ltb (length old) 8 h) (p .memory ∙ sets-front (recordOf a) old (omega (arith, record-eight a))),
+    rw (le-ltb (length old) recordWords h),
+    rw (le-ltb (length old) recordWords h) (p .memory ∙ sets-front (recordOf a) old (omega (arith, record-width a))),
   )
 
 -- ---- many points
@@ -45,20 +45,20 @@ unfolding gather
 gather-is f h e zero = refl
 gather-is f h e (suc n) = rw (gather-is f h e n, e n)
 
-pub same-eight : (a : Answer Sample) (n : ℕ) → length (gather (λ (k : ℕ). recordOf a) n) ≡ 8 * n
-same-eight a n = gather-even (λ (k : ℕ). recordOf a) 8 (λ k. record-eight a) n
+pub same-width : (a : Answer Sample) (n : ℕ) → length (gather (λ (k : ℕ). recordOf a) n) ≡ recordWords * n
+same-width a n = gather-even (λ (k : ℕ). recordOf a) recordWords (λ k. record-width a) n
 
 module _ (ps : List Float) (old : List ℕ) where
-  pub count-short : length old < 8 * pointsIn ps → (rs : List ℕ)
-      → (refused 3 (8 * pointsIn ps) ≡ countAnswer ps (length old)) × (old ≡ leaves (countAnswer ps (length old)) rs old)
+  pub count-short : length old < recordWords * pointsIn ps → (rs : List ℕ)
+      → (refused 3 (recordWords * pointsIn ps) ≡ countAnswer ps (length old)) × (old ≡ leaves (countAnswer ps (length old)) rs old)
   unfolding countAnswer judge leaves refuse
-  count-short h rs = (rw (lt-ltb (length old) (8 * pointsIn ps) h), rw (lt-ltb (length old) (8 * pointsIn ps) h))
+  count-short h rs = (rw (lt-ltb (length old) (recordWords * pointsIn ps) h), rw (lt-ltb (length old) (recordWords * pointsIn ps) h))
 
-  pub count-all : (rs : List ℕ) {now : List ℕ} {next : ℕ} → length rs ≡ 8 * pointsIn ps → 8 * pointsIn ps ≤ length old → Put old now 0 rs next
+  pub count-all : (rs : List ℕ) {now : List ℕ} {next : ℕ} → length rs ≡ recordWords * pointsIn ps → recordWords * pointsIn ps ≤ length old → Put old now 0 rs next
       → (taken (pointsIn ps) ≡ countAnswer ps (length old)) × (now ≡ leaves (countAnswer ps (length old)) rs old)
   unfolding countAnswer judge leaves refuse
   count-all rs e h p =
-      (rw (le-ltb (length old) (8 * pointsIn ps) h), rw (le-ltb (length old) (8 * pointsIn ps) h) (p .memory ∙ sets-front rs old (omega arith)))
+      (rw (le-ltb (length old) (recordWords * pointsIn ps) h), rw (le-ltb (length old) (recordWords * pointsIn ps) h) (p .memory ∙ sets-front rs old (omega arith)))
 
 module _ (m : Mesh) (ws : List ℕ) (ps : List Float) where
   -- one answer at every point
@@ -67,16 +67,16 @@ module _ (m : Mesh) (ws : List ℕ) (ps : List Float) where
   all-same a e =
       gather-is (λ (k : ℕ). recordOf a) (recordAt m ws ps) (λ k. ap recordOf (e (getD ps (2 * k) nan) (getD ps (2 * k + 1) nan))) (pointsIn ps)
 
-  at-eight : (k : ℕ) → length (recordAt m ws ps k) ≡ 8
+  at-width : (k : ℕ) → length (recordAt m ws ps k) ≡ recordWords
   unfolding recordAt
-  at-eight k = record-eight (topOf m ws (getD ps (2 * k) nan) (getD ps (2 * k + 1) nan))
+  at-width k = record-width (topOf m ws (getD ps (2 * k) nan) (getD ps (2 * k + 1) nan))
 
-  pub at-next : (k : ℕ) {old now : List ℕ} {at next : ℕ} → Put old now at (recordAt m ws ps k) next → next ≡ at + 8
-  at-next k p = p .ends ∙ ap (_+_ _) (at-eight k)
+  pub at-next : (k : ℕ) {old now : List ℕ} {at next : ℕ} → Put old now at (recordAt m ws ps k) next → next ≡ at + recordWords
+  at-next k p = p .ends ∙ ap (_+_ _) (at-width k)
 
-  pub all-eight : length (recordsOf m ws ps) ≡ 8 * pointsIn ps
+  pub all-width : length (recordsOf m ws ps) ≡ recordWords * pointsIn ps
   unfolding recordsOf
-  all-eight = gather-even (recordAt m ws ps) 8 at-eight (pointsIn ps)
+  all-width = gather-even (recordAt m ws ps) recordWords at-width (pointsIn ps)
 
   -- ---- the call's ends, for an output that held `old`
 

@@ -1,9 +1,9 @@
 -- The indexed lookup at many points in one call: point by point the answer of the single call, as words. Definitions only. Assumes nothing.
-use Prim.Native.Nat.{ℕ, _+_, _*_, _/_}
+use Prim.Native.Nat.{ℕ, _+_, _-_, _*_, _/_}
 use mathlib.Core.Bool.{cond}
-use mathlib.Core.List.{List, [], _∷_}
+use mathlib.Core.List.{List, [], _∷_, _++_}
 use lib.Dec.{ltb}
-use lib.ListN.{length, getD}
+use lib.ListN.{length, getD, replicate}
 use lib.Ieee.{Float, nan, binary32, toBits}
 use Rattle.vector.specs.declared.coords.Vector.{Vector}
 use Rattle.shape.specs.Gather.{gather}
@@ -19,6 +19,14 @@ use Rattle.lookup.specs.Sampler.{Sample, hit, miss, topFault, topOf}
 
 -- ---- the record of a point's answer
 
+-- how many words it has
+abbrev pub recordWords : ℕ
+recordWords = 8
+
+-- words, and then zeros up to the width
+unfoldable pub padded : List ℕ → List ℕ
+padded ws = ws ++ replicate (recordWords - length ws) 0
+
 -- whether there is a lane, and its id
 unfoldable pub laneThere : Lane → ℕ
 laneThere (Id id) = 1
@@ -30,19 +38,20 @@ laneId None = 0
 
 -- found: 1, height, normal, triangle, whether there is a lane, lane; none: zeros; refused: 2, number, place. Floats by their bits, a NaN's as 7fc00000
 unfoldable pub recordOf : Answer Sample → List ℕ
-unfolding toBits laneThere laneId
-recordOf (taken (hit h n t l)) =
-    1
+unfolding toBits laneThere laneId padded
+recordOf (taken (hit h n t d)) =
+    padded
+    (1
     ∷ toBits binary32 h
     ∷ toBits binary32 (n .x)
     ∷ toBits binary32 (n .y)
     ∷ toBits binary32 (n .z)
     ∷ t
-    ∷ laneThere l
-    ∷ laneId l
-    ∷ []
-recordOf (taken miss) = 0 ∷ 0 ∷ 0 ∷ 0 ∷ 0 ∷ 0 ∷ 0 ∷ 0 ∷ []
-recordOf (refused number place) = 2 ∷ number ∷ place ∷ 0 ∷ 0 ∷ 0 ∷ 0 ∷ 0 ∷ []
+    ∷ laneThere (d .lane)
+    ∷ laneId (d .lane)
+    ∷ [])
+recordOf (taken miss) = padded []
+recordOf (refused number place) = padded (2 ∷ number ∷ place ∷ [])
 
 -- ---- the call: points are list 5, pairs x, y
 
@@ -59,10 +68,10 @@ unfoldable pub recordsOf : Mesh → List ℕ → List Float → List ℕ
 unfolding gather recordAt
 recordsOf m ws ps = gather (recordAt m ws ps) (pointsIn ps)
 
--- the last that is judged is an output without room for eight words a point; else how many points there are
+-- the last that is judged is an output without room for a record a point; else how many points there are
 unfoldable pub countAnswer : List Float → ℕ → Answer ℕ
 unfolding judge refuse
-countAnswer ps room = judge (refuse (ltb room (8 * pointsIn ps)) 3 (8 * pointsIn ps) fine) (taken (pointsIn ps))
+countAnswer ps room = judge (refuse (ltb room (recordWords * pointsIn ps)) 3 (recordWords * pointsIn ps) fine) (taken (pointsIn ps))
 
 -- the answer for an output of `room` words. What is wrong with the whole call is judged in the table's order: 1 and 2 of the lists, a point without its y, the
 -- index's first words, the room

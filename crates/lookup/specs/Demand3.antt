@@ -14,11 +14,12 @@ use Rattle.shape.specs.Refusal.{fine, taken, refused, leaves}
 use Rattle.shape.specs.SurfaceMesh.{Given, lanesOf, indexOf, meshOf}
 use Rattle.lookup.specs.declared.sampler.Lane.{Lane}
 use Rattle.lookup.specs.declared.sampler.Lane.the-variants.{Id}
+use Rattle.lookup.specs.declared.sampler.Detail.{Detail}
 use Rattle.lookup.specs.Box.{inBox}
 use Rattle.lookup.specs.Plain.{Lookup, gives, none, answerOf}
 use Rattle.lookup.specs.Winner.{Uncovered, height, normal, Wins, NoNan, Right}
 use Rattle.lookup.specs.Index.{indexWords, buildOf}
-use Rattle.lookup.specs.Sampler.{laneOf, Sample, hit, miss, lookupIn, topOf}
+use Rattle.lookup.specs.Sampler.{Sample, hit, miss, detailOf, lookupIn, topOf}
 
 -- "an index built from a mesh is the words that a taken building call left": in memory that held `before`, the call left `size` words at the front, and ws is
 -- what stands there now, those words at least
@@ -54,9 +55,9 @@ pub record InWords (m : Mesh) (ws : List ℕ) (x y : Float) : Type 0 where
   pub indexed-none : answerOf m x y ≡ taken none → (s : Sample) → topOf m ws x y ≡ taken s → s ≡ miss
   -- it is never higher
   pub never-higher : NoNan m x y → (h : Float) (n : Vector) (k : ℕ) → answerOf m x y ≡ taken (gives h n k)
-      → (h′ : Float) (n′ : Vector) (k′ : ℕ) (l : Lane) → topOf m ws x y ≡ taken (hit h′ n′ k′ l) → T (le h′ h)
+      → (h′ : Float) (n′ : Vector) (k′ : ℕ) (d : Detail) → topOf m ws x y ≡ taken (hit h′ n′ k′ d) → T (le h′ h)
   -- over a mesh that came from lanes it names the lane whose strip holds the triangle
-  pub lane : (g : Given) → m ≡ meshOf g → (h : Float) (n : Vector) (t : ℕ) (l : Lane) → topOf m ws x y ≡ taken (hit h n t l) → NamesLane g t l
+  pub lane : (g : Given) → m ≡ meshOf g → (h : Float) (n : Vector) (t : ℕ) (d : Detail) → topOf m ws x y ≡ taken (hit h n t d) → NamesLane g t (d .lane)
 
 -- of the indexed lookup in words built from the mesh
 pub record InBuilt (m : Mesh) (ws : List ℕ) (x y : Float) : Type 0 where
@@ -66,7 +67,7 @@ pub record InBuilt (m : Mesh) (ws : List ℕ) (x y : Float) : Type 0 where
   pub indexed-taken : length ws ≤ 4194304 → (number place : ℕ) → topOf m ws x y ≡ refused number place → ⊥
   -- where the winner's grown box holds the point it gives the winner, and both lookups the same. There is no winner where a covering height is a NaN
   pub winner : (k : ℕ) → Wins m x y k → inBox (m .vertices) (m .indices) k x y ≡ true → (s : Sample) → topOf m ws x y ≡ taken s
-      → (s ≡ hit (height m x y k) (normal m x y k) k (laneOf (m .spans) k)) × (answerOf m x y ≡ taken (lookupIn s))
+      → (s ≡ hit (height m x y k) (normal m x y k) k (detailOf m k)) × (answerOf m x y ≡ taken (lookupIn s))
 
 -- the demand, for every mesh and point
 pub record Demand3 (m : Mesh) (x y : Float) : Type 0 where

@@ -1,4 +1,5 @@
 -- Laws about the definitions, for the proofs here and in the crates above.
+pub mod Fold
 pub mod Scan
 pub mod Plain
 pub mod Tables

@@ -1,6 +1,7 @@
 -- The definitions, a file for each part of document 01's "Height under a wheel", and the laws about them.
 pub mod Mesh
 pub mod Cover
+pub mod Fold
 pub mod Plain
 pub mod Sixteen
 pub mod Winner

@@ -1,6 +1,6 @@
 -- Document 01, "Height under a wheel": what the plain lookup answers. Definitions only. Assumes nothing.
-use Prim.Native.Nat.{ℕ, zero, suc}
-use mathlib.Core.Bool.{cond}
+use Prim.Native.Nat.{ℕ}
+use mathlib.Core.Bool.{Bool, cond}
 use mathlib.Core.List.{List}
 use lib.ListN.{getD}
 use lib.Ieee.{Float, le}
@@ -11,6 +11,7 @@ use Rattle.lookup.specs.declared.mesh.Best.{Best}
 use Rattle.lookup.specs.declared.mesh.Best.the-variants.{At, Nothing}
 use Rattle.lookup.specs.declared.mesh.Answer.the-variants as plain
 use Rattle.lookup.specs.Mesh.{triangles}
+use Rattle.lookup.specs.Fold.{foldOf}
 use Rattle.lookup.specs.Cover.{covers, heightOf, normalOf}
 
 -- ---- the scan of `Mesh::highest`
@@ -20,11 +21,15 @@ unfoldable pub higherOf : Best → Float → ℕ → Best
 higherOf Nothing h t = At h t
 higherOf (At g k) h t = cond (le h g) (At g k) (At h t)
 
--- the best of the first n triangles of a sequence of triangle numbers; those that do not cover the point are passed over
+-- the best of the first n numbers of a sequence, from a start on: which numbers count, and the height of each. The heights go by `higherOf`
+unfoldable pub scanBy : (ℕ → Bool) → (ℕ → Float) → Best → (ℕ → ℕ) → ℕ → Best
+unfolding foldOf
+scanBy counts height start seq n = foldOf counts (λ best t. higherOf best (height t) t) start seq n
+
+-- document 01's rule: a triangle counts where it covers the point
 unfoldable pub scanOf : List Float → List ℕ → Float → Float → (ℕ → ℕ) → ℕ → Best
-scanOf vs is x y seq zero = Nothing
-scanOf vs is x y seq (suc i) =
-    cond (covers vs is (seq i) x y) (higherOf (scanOf vs is x y seq i) (heightOf vs is (seq i) x y) (seq i)) (scanOf vs is x y seq i)
+unfolding scanBy
+scanOf vs is x y seq n = scanBy (λ t. covers vs is t x y) (λ t. heightOf vs is t x y) Nothing seq n
 
 -- the sequence that a run of triangle numbers is
 abbrev pub entryOf : List ℕ → ℕ → ℕ

@@ -13,6 +13,7 @@ use Rattle.lookup.specs.declared.mesh.Best.{Best}
 use Rattle.lookup.specs.declared.mesh.Best.the-variants.{At, Nothing}
 use Rattle.lookup.specs.declared.sampler.Lane.{Lane}
 use Rattle.lookup.specs.declared.sampler.Lane.the-variants.{Id, None}
+use Rattle.lookup.specs.declared.sampler.Detail.{Detail}
 use Rattle.lookup.specs.declared.sampler.Sampled.{Sampled}
 use Rattle.lookup.specs.declared.sampler.Sampled.the-variants as sampled
 use Rattle.lookup.specs.Mesh.{triangles}
@@ -68,18 +69,22 @@ EndsRise ss n = (j k : ℕ) → j ≤ k → k < n → endOf 5 3 ss j ≤ endOf 5
 
 -- ---- the answer
 
--- height, normal, triangle and lane, or none
+-- document 01's three values and what else is told of the triangle, or none
 pub data Sample : Type 0 where
-  hit : Float → Vector → ℕ → Lane → Sample
+  hit : Float → Vector → ℕ → Detail → Sample
   miss : Sample
+
+-- what else is told of triangle t
+abbrev pub detailOf : Mesh → ℕ → Detail
+detailOf m t = record { lane = laneOf (m .spans) t }
 
 -- what the plain lookup also gives
 unfoldable pub lookupIn : Sample → Lookup
-lookupIn (hit h n t l) = gives h n t
+lookupIn (hit h n t d) = gives h n t
 lookupIn miss = none
 
 unfoldable pub sampleOf : Mesh → Float → Float → Best → Sample
-sampleOf m x y (At h t) = hit h (normalOf (m .vertices) (m .normals) (m .indices) t x y) t (laneOf (m .spans) t)
+sampleOf m x y (At h t) = hit h (normalOf (m .vertices) (m .normals) (m .indices) t x y) t (detailOf m t)
 sampleOf m x y Nothing = miss
 
 -- the best of a run of triangle numbers
@@ -100,6 +105,6 @@ topOf m ws x y = judge (topFault m ws) (onward (consultOf ws (triangles (m .indi
 -- document 01's values of each case of the code's
 unfoldable pub readSampled : Sampled → Answer Sample
 unfolding numberOf placeOf
-readSampled (sampled.Found h n t l) = taken (hit h n t l)
+readSampled (sampled.Found h n t d) = taken (hit h n t d)
 readSampled sampled.None = taken miss
 readSampled (sampled.Refused r) = refused (numberOf r) (placeOf r)

@@ -1,4 +1,4 @@
-// The record of a point's answer, eight words: found 1, height, normal, triangle, whether there is a lane, its
+// The record of a point's answer: found 1, height, normal, triangle, whether there is a lane, its
 // id; none: zeros; refused: 2, number, place. And the two lookups at one point, answered by it.
 ghost use mathlib.Core.Path.{_≡_};
 ghost use mathlib.Core.List.{[], _∷_};
@@ -9,10 +9,11 @@ ghost use Rattle.shape.specs.Memory.{Put};
 ghost use Rattle.shape.specs.Refusal.{taken, leaves};
 ghost use Rattle.lookup.specs.Plain.{answerOf, readAnswer};
 ghost use Rattle.lookup.specs.Sampler.{Sample, readSampled, topOf};
-ghost use Rattle.lookup.specs.Batch.{recordOf, readSampling};
+ghost use Rattle.lookup.specs.Batch.{recordWords, recordOf, readSampling};
 ghost use Rattle.lookup.specs.Record.{plainSample, roomFor, recordAnswer, RecordFits};
 use crate::mesh::Answer;
 use crate::mesh::height_at;
+use crate::sampler::Detail;
 use crate::sampler::Lane;
 use crate::sampler::Sampled;
 use crate::sampler::Sampling;
@@ -25,7 +26,7 @@ use crate::sampler::word;
 use rounding::bits::bits32;
 use shape::refusal::Refusal;
 
-// How many words a record has.
+// How many words a record has: `recordWords` of the definitions.
 pub const RECORD_WORDS: usize = 8;
 
 // Eight words from `at` on, and where they end.
@@ -41,7 +42,7 @@ fn put_eight(
     g: u32,
     h: u32,
 ) -> usize
-    requires { ⌜ at + 8 ≤ length (now out) ⌝ }
+    requires { ⌜ at + recordWords ≤ length (now out) ⌝ }
     ensures { λ r. ⌜ Put (now (out .entry)) (now (out .exit)) at (a ∷ b ∷ c ∷ d ∷ e ∷ f ∷ g ∷ h ∷ []) r ⌝ }
 {
     out[at] = a;
@@ -57,23 +58,26 @@ fn put_eight(
 
 // The record of a point's answer, from `at` on.
 pub(crate) fn put_record(out: &mut [u32], at: usize, s: Sampled) -> usize
-    requires { ⌜ at + 8 ≤ length (now out) ⌝ }
+    requires { ⌜ at + recordWords ≤ length (now out) ⌝ }
     requires { ⌜ RecordFits (readSampled s) ⌝ }
     ensures { λ r. ⌜ Put (now (out .entry)) (now (out .exit)) at (recordOf (readSampled s)) r ⌝ }
 {
     match s {
-        Sampled::Found(h, n, t, l) => put_eight(
-            out,
-            at,
-            1,
-            bits32(h),
-            bits32(n.x),
-            bits32(n.y),
-            bits32(n.z),
-            word(t),
-            lane_there(l),
-            word(lane_id(l)),
-        ),
+        Sampled::Found(h, n, t, d) => {
+            let lane = d.lane;
+            put_eight(
+                out,
+                at,
+                1,
+                bits32(h),
+                bits32(n.x),
+                bits32(n.y),
+                bits32(n.z),
+                word(t),
+                lane_there(lane),
+                word(lane_id(lane)),
+            )
+        }
         Sampled::None => put_eight(out, at, 0, 0, 0, 0, 0, 0, 0, 0),
         Sampled::Refused(r) => put_eight(out, at, 2, number(r), word(place(r)), 0, 0, 0, 0, 0),
     }
@@ -101,7 +105,7 @@ fn answer_by(words: &mut [u32], s: Sampled) -> Sampling
     match s {
         Sampled::Refused(r) => Sampling::Refused(r),
         Sampled::None => put_front(words, s, 0),
-        Sampled::Found(h, n, t, l) => put_front(words, s, 1),
+        Sampled::Found(h, n, t, d) => put_front(words, s, 1),
     }
 }
 
@@ -110,7 +114,7 @@ fn without_lane(a: Answer) -> Sampled
     ensures { λ r. ⌜ readSampled r ≡ plainSample (readAnswer a) ⌝ }
 {
     match a {
-        Answer::Found(h, n, t) => Sampled::Found(h, n, t, Lane::None),
+        Answer::Found(h, n, t) => Sampled::Found(h, n, t, Detail { lane: Lane::None }),
         Answer::None => Sampled::None,
         Answer::Refused(r) => Sampled::Refused(r),
     }

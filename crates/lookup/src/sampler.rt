@@ -13,7 +13,7 @@ ghost use Rattle.lookup.specs.Consult.{entryFault};
 ghost use Rattle.lookup.specs.Mesh.{triangles};
 ghost use Rattle.lookup.specs.Sixteen.{Small, Poised};
 ghost use Rattle.lookup.specs.Steps.{Ready, Halved};
-ghost use Rattle.lookup.specs.Batch.{wordFor, laneThere, laneId, recordOf, recordAt, recordsOf, countAnswer, topsOf, readSampling};
+ghost use Rattle.lookup.specs.Batch.{recordWords, wordFor, laneThere, laneId, recordOf, recordAt, recordsOf, countAnswer, topsOf, readSampling};
 use crate::consult::Consulted;
 use crate::consult::Front;
 use crate::consult::Opened;
@@ -40,10 +40,15 @@ pub enum Lane {
     None,
 }
 
-// What the indexed lookup answers: height, normal, triangle and lane, or none, or why the call is
+// What the indexed lookup tells of the triangle besides document 01's three values.
+pub struct Detail {
+    pub lane: Lane,
+}
+
+// What the indexed lookup answers: height, normal, triangle and the rest, or none, or why the call is
 // turned back.
 pub enum Sampled {
-    Found(f32, Vector, usize, Lane),
+    Found(f32, Vector, usize, Detail),
     None,
     Refused(Refusal),
 }
@@ -269,7 +274,8 @@ fn told(
         return Sampled::None;
     };
     let normal = normal_by(vertices, normals, indices, t, x, y, peak.weights);
-    Sampled::Found(h, normal, t, lane_of(spans, t))
+    let lane = lane_of(spans, t);
+    Sampled::Found(h, normal, t, Detail { lane: lane })
 }
 
 // The answer at (x, y) where the five lists are in order and the index's first words are h: the highest of
@@ -405,7 +411,7 @@ fn put_point(
 ) -> usize
     requires { let m = meshLists (now vertices) (now normals) (now indices) (now spans) in ⌜ topFault m (now index) ≡ fine ⌝ }
     requires { ⌜ Ready (now index) (triangles (now indices)) h ⌝ }
-    requires { ⌜ (k < length (now points) / 2) × (at + 8 ≤ length (now answers)) ⌝ }
+    requires { ⌜ (k < length (now points) / 2) × (at + recordWords ≤ length (now answers)) ⌝ }
     ensures { λ r. let m = meshLists (now (vertices .entry)) (now (normals .entry)) (now (indices .entry)) (now (spans .entry)) in
         ⌜ Put (now (answers .entry)) (now (answers .exit)) at (recordAt m (now (index .entry)) (now (points .entry)) k) r ⌝ }
 {
@@ -474,7 +480,7 @@ fn tops_empty(points: &[f32], answers: &mut [u32]) -> Sampling
     Sampling::Count(n)
 }
 
-// The answers at many points, eight words each: point by point that of `top`. The lists and the index's first
+// The answers at many points, a record each: point by point that of `top`. The lists and the index's first
 // words are looked through once for all points, and what is wrong with them turns the whole call back.
 pub fn tops(
     vertices: &[f32],

@@ -86,8 +86,9 @@ fn put_lane(made: &mut [u32], at: usize, lane: Lane) -> usize {
 
 fn put_sample(made: &mut [u32], at: usize, a: Sampled) -> usize {
     match a {
-        Sampled::Found(h, n, t, lane) => {
+        Sampled::Found(h, n, t, detail) => {
             let k = put_found(made, at, h, n, t);
+            let lane = detail.lane;
             put_lane(made, k, lane)
         }
         Sampled::None => put_zeros(made, at, 9),

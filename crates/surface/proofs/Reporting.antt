@@ -25,7 +25,7 @@ use Rattle.lookup.specs.declared.grid.Built.the-variants as built
 use Rattle.lookup.specs.Index.{buildOf, roomFault, answerTo, readBuilt, indexWords}
 use Rattle.lookup.specs.declared.sampler.Sampling.{Sampling}
 use Rattle.lookup.specs.declared.sampler.Sampling.the-variants as sampling
-use Rattle.lookup.specs.Batch.{recordsOf, topsOf, readSampling}
+use Rattle.lookup.specs.Batch.{recordWords, recordsOf, topsOf, readSampling}
 use Rattle.surface.specs.declared.held.Sizes.{Sizes}
 use Rattle.surface.specs.declared.file.Copied.{Copied}
 use Rattle.surface.specs.declared.file.Copied.the-variants as copied
@@ -130,7 +130,7 @@ module _
     {n : ℕ}
     (t : buildOf (meshIn ws) 16384 ≡ taken n)
     (room : ℕ)
-    (r : room ≡ 16384)
+    (r : room ≡ 2048 * recordWords)
   where
     took : topsOf (meshLists vs ns is []) index ps room ≡ taken (countKind ws 3)
     unfolding meshIn
@@ -155,16 +155,16 @@ module _
       count-most z = omega (arith, asked-count z, kind-most ws 3 (u .few))
 
       module _ {m : ℕ} (z : s ≡ sampling.Count m) (before after : List ℕ) (l : after ≡ leaves (topsOf (meshLists vs ns is []) index ps room) (recordsOf (meshLists vs ns is []) index ps) before) where
-        count-words : 8 * m ≡ length (recordsOf (meshLists vs ns is []) index ps)
+        count-words : recordWords * m ≡ length (recordsOf (meshLists vs ns is []) index ps)
         count-words = rw (left, records-length ws, asked-count z)
 
-        pub records-front : take (8 * m) after ≡ recordsIn ws
-        records-front = front (topsOf (meshLists vs ns is []) index ps room) (countKind ws 3) (8 * m) (recordsOf (meshLists vs ns is []) index ps) before after took count-words l ∙ left
+        pub records-front : take (recordWords * m) after ≡ recordsIn ws
+        records-front = front (topsOf (meshLists vs ns is []) index ps room) (countKind ws 3) (recordWords * m) (recordsOf (meshLists vs ns is []) index ps) before after took count-words l ∙ left
 
-        pub records-part : 8 * m ≡ length (take (8 * m) after)
-        records-part = front-length (8 * m) (recordsIn ws) after records-front (count-words ∙ ap length left)
+        pub records-part : recordWords * m ≡ length (take (recordWords * m) after)
+        records-part = front-length (recordWords * m) (recordsIn ws) after records-front (count-words ∙ ap length left)
 
-        pub asked : Asked ws sizes (take (8 * m) after)
+        pub asked : Asked ws sizes (take (recordWords * m) after)
         asked = record { few = u .few; sized = u .sized; records = records-front }
 
 -- ---- the file

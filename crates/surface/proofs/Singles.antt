@@ -16,7 +16,7 @@ use Rattle.vector.specs.declared.coords.Vector.{Vector}
 use Rattle.shape.specs.Lists.{Mesh}
 use Rattle.shape.specs.Refusal.{taken}
 use Rattle.lookup.specs.declared.mesh.Weights.{Weights}
-use Rattle.lookup.specs.declared.sampler.Lane.{Lane}
+use Rattle.lookup.specs.declared.sampler.Detail.{Detail}
 use Rattle.lookup.specs.Mesh.{present, cornerOf}
 use Rattle.lookup.specs.Cover.{weightsAt, liftOf, heightOf, smoothOf, blendOf, flatOf, faceUp, normalOf}
 use Rattle.lookup.specs.Sampler.{hit, topOf}
@@ -73,10 +73,10 @@ unfolding heightOf liftOf
 height-single vs is t x y = add-fits binary32 _ _
 
 -- the answer at a point
-module _ (m : Mesh) (ws : List ℕ) (x y : Float) {h : Float} {n : Vector} {t : ℕ} {l : Lane} (e : topOf m ws x y ≡ taken (hit h n t l)) where
+module _ (m : Mesh) (ws : List ℕ) (x y : Float) {h : Float} {n : Vector} {t : ℕ} {d : Detail} (e : topOf m ws x y ≡ taken (hit h n t d)) where
   pub single-height : T (fits binary32 h)
   single-height =
-      subst (λ (g : Float). T (fits binary32 g)) (sym (hit-held m ws x y h n t l e .is-height)) (height-single (m .vertices) (m .indices) t x y)
+      subst (λ (g : Float). T (fits binary32 g)) (sym (hit-held m ws x y h n t d e .is-height)) (height-single (m .vertices) (m .indices) t x y)
 
   pub single-normal : SingleVector n
-  single-normal = subst SingleVector (sym (hit-held m ws x y h n t l e .is-normal)) (normal-single (m .vertices) (m .normals) (m .indices) t x y)
+  single-normal = subst SingleVector (sym (hit-held m ws x y h n t d e .is-normal)) (normal-single (m .vertices) (m .normals) (m .indices) t x y)

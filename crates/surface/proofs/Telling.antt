@@ -15,9 +15,10 @@ use Rattle.shape.specs.Memory.{Put}
 use Rattle.shape.specs.Refusal.{Answer, taken, refused}
 use Rattle.shape.specs.Laws.Gather.{gather-next, gather-even, gather-at, gather-fits}
 use Rattle.shape.specs.Laws.Memory.{put-then, put-turn}
-use Rattle.lookup.specs.declared.sampler.Lane.{Lane}
+use Rattle.lookup.specs.declared.sampler.Detail.{Detail}
 use Rattle.lookup.specs.Sampler.{Sample, hit, miss, topOf}
-use Rattle.lookup.specs.Batch.{recordOf}
+use Rattle.lookup.specs.Batch.{recordWords, recordOf}
+use Rattle.lookup.specs.Laws.Batch.{record-width}
 use Rattle.surface.specs.declared.held.Sizes.{Sizes}
 use Rattle.surface.specs.declared.report.Told.{Told}
 use Rattle.surface.specs.declared.report.Line.{Line}
@@ -40,34 +41,29 @@ vector n m ex ey ez =
 
 -- ---- the words of a record
 
-record-eight : (s : Sample) → length (recordOf (taken s)) ≡ 8
-unfolding recordOf
-record-eight (hit h n t l) = refl
-record-eight miss = refl
-
 module _ (ws : List ℕ) where
-  in-eight : (k : ℕ) → length (recordIn ws k) ≡ 8
+  in-width : (k : ℕ) → length (recordIn ws k) ≡ recordWords
   unfolding recordIn
-  in-eight k = record-eight (sampleAt ws k)
+  in-width k = record-width (taken (sampleAt ws k))
 
-  pub records-length : length (recordsIn ws) ≡ 8 * countKind ws 3
+  pub records-length : length (recordsIn ws) ≡ recordWords * countKind ws 3
   unfolding recordsIn
-  records-length = gather-even (recordIn ws) 8 in-eight (countKind ws 3)
+  records-length = gather-even (recordIn ws) recordWords in-width (countKind ws 3)
 
-  word-in : (k j : ℕ) → k < countKind ws 3 → j < 8 → getD (recordsIn ws) (8 * k + j) 0 ≡ getD (recordIn ws k) j 0
+  word-in : (k j : ℕ) → k < countKind ws 3 → j < recordWords → getD (recordsIn ws) (recordWords * k + j) 0 ≡ getD (recordIn ws k) j 0
   unfolding recordsIn
   word-in k j h l =
-      let e : length (gather (recordIn ws) k) ≡ 8 * k = gather-even (recordIn ws) 8 in-eight k in
-      let p : j < length (recordIn ws k) = omega (arith, in-eight k) in
+      let e : length (gather (recordIn ws) k) ≡ recordWords * k = gather-even (recordIn ws) recordWords in-width k in
+      let p : j < length (recordIn ws k) = omega (arith, in-width k) in
       rw e at (gather-at (recordIn ws) (countKind ws 3) k j 0 h p)
 
   -- an answer was one of the lookup's
-  was-hit : (k : ℕ) {h : Float} {n : Vector} {t : ℕ} {l : Lane} → sampleAt ws k ≡ hit h n t l
-      → topOf (meshIn ws) (indexIn ws) (questionAt ws k .x) (questionAt ws k .y) ≡ taken (hit h n t l)
+  was-hit : (k : ℕ) {h : Float} {n : Vector} {t : ℕ} {d : Detail} → sampleAt ws k ≡ hit h n t d
+      → topOf (meshIn ws) (indexIn ws) (questionAt ws k .x) (questionAt ws k .y) ≡ taken (hit h n t d)
   unfolding sampleAt given
-  was-hit k {h} {n} {t} {l} e = go (topOf (meshIn ws) (indexIn ws) (questionAt ws k .x) (questionAt ws k .y)) e
+  was-hit k {h} {n} {t} {d} e = go (topOf (meshIn ws) (indexIn ws) (questionAt ws k .x) (questionAt ws k .y)) e
     where
-      go : (a : Answer Sample) → given a ≡ hit h n t l → a ≡ taken (hit h n t l)
+      go : (a : Answer Sample) → given a ≡ hit h n t d → a ≡ taken (hit h n t d)
       go (taken s) q = ap taken q
       go (refused number place) q = absurd (let z : _≡_ {A = ℕ} 0 1 = cc in omega arith)
 
@@ -79,29 +75,29 @@ module _ {ws : List ℕ} {sizes : Sizes} {rs : List ℕ} (a : Asked ws sizes rs)
   pub asked-most : sizes .questions ≤ 2048
   asked-most = omega (arith, asked-are, kind-most ws 3 (a .few))
 
-  pub asked-length : length rs ≡ 8 * sizes .questions
-  asked-length = ap length (a .records) ∙ records-length ws ∙ ap (λ (n : ℕ). 8 * n) (sym asked-are)
+  pub asked-length : length rs ≡ recordWords * sizes .questions
+  asked-length = ap length (a .records) ∙ records-length ws ∙ ap (λ (n : ℕ). recordWords * n) (sym asked-are)
 
   module _ {k : ℕ} (h : k < sizes .questions) where
-    word-is : (j : ℕ) → j < 8 → getD rs (8 * k + j) 0 ≡ getD (recordIn ws k) j 0
-    word-is j l = ap (λ (xs : List ℕ). getD xs (8 * k + j) 0) (a .records) ∙ word-in ws k j (omega (arith, asked-are)) l
+    word-is : (j : ℕ) → j < recordWords → getD rs (recordWords * k + j) 0 ≡ getD (recordIn ws k) j 0
+    word-is j l = ap (λ (xs : List ℕ). getD xs (recordWords * k + j) 0) (a .records) ∙ word-in ws k j (omega (arith, asked-are)) l
 
-    first-is : getD rs (8 * k) 0 ≡ getD (recordIn ws k) 0 0
-    first-is = ap (λ (i : ℕ). getD rs i 0) (sym (add-zero (8 * k))) ∙ word-is 0 (omega arith)
+    first-is : getD rs (recordWords * k) 0 ≡ getD (recordIn ws k) 0 0
+    first-is = ap (λ (i : ℕ). getD rs i 0) (sym (add-zero (recordWords * k))) ∙ word-is 0 (omega arith)
 
     -- ---- its line
 
-    pub tells-none : getD rs (8 * k) 0 ≡ 0 → Tells ws k None
+    pub tells-none : getD rs (recordWords * k) 0 ≡ 0 → Tells ws k None
     unfolding recordIn recordOf textOf isFound lineAt lineOf answeredAt answered
     tells-none z = go (sampleAt ws k) refl (sym first-is ∙ z)
       where
         go : (s : Sample) → sampleAt ws k ≡ s → getD (recordOf (taken s)) 0 0 ≡ 0 → Tells ws k None
-        go (hit g n t l) e q = absurd (let w : _≡_ {A = ℕ} 1 0 = q in omega arith)
+        go (hit g n t d) e q = absurd (let w : _≡_ {A = ℕ} 1 0 = q in omega arith)
         go miss e q = record { text = rw e; answer = rw e; words = record { small = λ w. absurd (let v : _≡_ {A = ℕ} 0 1 = cc in omega arith) } }
 
-    pub tells-found : {g : Float} {n : Vector} {t lane : ℕ} → (getD rs (8 * k) 0 ≡ 0 → ⊥) → g ≡ ofBits binary32 (getD rs (8 * k + 1) 0)
-        → n .x ≡ ofBits binary32 (getD rs (8 * k + 2) 0) → n .y ≡ ofBits binary32 (getD rs (8 * k + 3) 0)
-        → n .z ≡ ofBits binary32 (getD rs (8 * k + 4) 0) → (t ≡ getD rs (8 * k + 5) 0) × (t < 2 ^ 32) → (lane ≡ laneOf ws t) × (lane < 2 ^ 32)
+    pub tells-found : {g : Float} {n : Vector} {t lane : ℕ} → (getD rs (recordWords * k) 0 ≡ 0 → ⊥) → g ≡ ofBits binary32 (getD rs (recordWords * k + 1) 0)
+        → n .x ≡ ofBits binary32 (getD rs (recordWords * k + 2) 0) → n .y ≡ ofBits binary32 (getD rs (recordWords * k + 3) 0)
+        → n .z ≡ ofBits binary32 (getD rs (recordWords * k + 4) 0) → (t ≡ getD rs (recordWords * k + 5) 0) × (t < 2 ^ 32) → (lane ≡ laneOf ws t) × (lane < 2 ^ 32)
         → Tells ws k (Found g n t lane)
     unfolding recordIn recordOf textOf isFound lineAt lineOf answeredAt answered
     tells-found {g} {n} {t} {lane} z eg ex ey ez et el = go (sampleAt ws k) refl (λ q. z (first-is ∙ q)) (word-is 1 (omega arith)) (word-is 2 (omega arith)) (word-is 3 (omega arith)) (word-is 4 (omega arith)) (word-is 5 (omega arith))
@@ -113,10 +109,10 @@ module _ {ws : List ℕ} {sizes : Sizes} {rs : List ℕ} (a : Asked ws sizes rs)
         back v f p q = ap (ofBits binary32) (p ∙ q) ∙ ofBits-toBits binary32 v f
 
         go : (s : Sample) → sampleAt ws k ≡ s → (getD (recordOf (taken s)) 0 0 ≡ 0 → ⊥)
-            → getD rs (8 * k + 1) 0 ≡ getD (recordOf (taken s)) 1 0 → getD rs (8 * k + 2) 0 ≡ getD (recordOf (taken s)) 2 0
-            → getD rs (8 * k + 3) 0 ≡ getD (recordOf (taken s)) 3 0 → getD rs (8 * k + 4) 0 ≡ getD (recordOf (taken s)) 4 0
-            → getD rs (8 * k + 5) 0 ≡ getD (recordOf (taken s)) 5 0 → Tells ws k (Found g n t lane)
-        go (hit i m u l) e q w1 w2 w3 w4 w5 =
+            → getD rs (recordWords * k + 1) 0 ≡ getD (recordOf (taken s)) 1 0 → getD rs (recordWords * k + 2) 0 ≡ getD (recordOf (taken s)) 2 0
+            → getD rs (recordWords * k + 3) 0 ≡ getD (recordOf (taken s)) 3 0 → getD rs (recordWords * k + 4) 0 ≡ getD (recordOf (taken s)) 4 0
+            → getD rs (recordWords * k + 5) 0 ≡ getD (recordOf (taken s)) 5 0 → Tells ws k (Found g n t lane)
+        go (hit i m u d) e q w1 w2 w3 w4 w5 =
             let top = was-hit ws k e in
             let f = single-height (meshIn ws) (indexIn ws) (questionAt ws k .x) (questionAt ws k .y) top in
             let v = single-normal (meshIn ws) (indexIn ws) (questionAt ws k .x) (questionAt ws k .y) top in

@@ -34,7 +34,7 @@ unfolding given topOf meshIn indexIn questionAt
 sampleAt ws k = given (topOf (meshIn ws) (indexIn ws) (questionAt ws k .x) (questionAt ws k .y))
 
 unfoldable pub answered : Sample → Bool
-answered (hit height normal triangle lane) = true
+answered (hit height normal triangle detail) = true
 answered miss = false
 
 -- ---- the text
@@ -42,7 +42,7 @@ answered miss = false
 -- the line of question k; "the lane is word 4"
 unfoldable pub lineOf : List ℕ → ℕ → Sample → List ℕ
 unfolding foundLine noneLine laneOf
-lineOf ws k (hit height normal triangle lane) = foundLine k height normal triangle (laneOf ws triangle)
+lineOf ws k (hit height normal triangle detail) = foundLine k height normal triangle (laneOf ws triangle)
 lineOf ws k miss = noneLine k
 
 unfoldable pub lineAt : List ℕ → ℕ → List ℕ

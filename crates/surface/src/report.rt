@@ -9,6 +9,7 @@ ghost use lib.ListN.{length, take, drop};
 ghost use Rattle.shape.specs.Memory.{Put};
 ghost use Rattle.shape.specs.Refusal.{leaves, taken, numberOf, placeOf};
 ghost use Rattle.lookup.specs.Index.{buildOf};
+ghost use Rattle.lookup.specs.Batch.{recordWords};
 ghost use Rattle.surface.specs.File.{wordsOf, readCopied};
 ghost use Rattle.surface.specs.Held.{howMany, countKind};
 ghost use Rattle.surface.specs.Text.{refusedLine};
@@ -33,6 +34,7 @@ use crate::text::put_refused;
 use crate::text::refused_length;
 use lookup::grid::Built;
 use lookup::grid::build;
+use lookup::record::RECORD_WORDS;
 use lookup::sampler::Sampling;
 use lookup::sampler::tops;
 use rounding::bits::from_bits32;
@@ -106,10 +108,10 @@ fn wide(x: u32) -> usize
 // The line of question k, by its record.
 fn line_at(bytes: &[u8], sizes: Sizes, records: &[u32], k: usize) -> Line
     requires { ⌜ Asked (wordsOf (now bytes)) sizes (now records) ⌝ }
-    requires { ⌜ (k < sizes .questions) × (8 * k + 8 ≤ length (now records)) ⌝ }
+    requires { ⌜ (k < sizes .questions) × (recordWords * k + recordWords ≤ length (now records)) ⌝ }
     ensures { λ r. ⌜ Tells (wordsOf (now (bytes .entry))) k r ⌝ }
 {
-    let at = 8 * k;
+    let at = RECORD_WORDS * k;
     if records[at] == 0 {
         return Line::None;
     }
@@ -226,7 +228,7 @@ fn tell_answers(
     requires { ⌜ buildOf (meshIn (wordsOf (now bytes))) 16384 ≡ taken (length (now index)) ⌝ }
     ensures { λ a. ⌜ Says (linesOf (wordsOf (now (bytes .entry)))) (now (text .entry)) (now (text .exit)) a ⌝ }
 {
-    let mut records = [0u32; 16384];
+    let mut records = [0u32; 2048 * RECORD_WORDS];
     match tops(
         vertices,
         normals,
@@ -236,7 +238,7 @@ fn tell_answers(
         points,
         &mut records,
     ) {
-        Sampling::Count(n) => tell_lines(bytes, sizes, &records[..8 * n], text),
+        Sampling::Count(n) => tell_lines(bytes, sizes, &records[..RECORD_WORDS * n], text),
         // An index is never foreign to the mesh that it was built from (`all-taken`).
         Sampling::Refused(r) => Copied::Refused(r),
     }

@@ -23,7 +23,7 @@ use Rattle.lookup.specs.Mesh.{triangles}
 use Rattle.lookup.specs.Plain.{scanOf, entryOf, lookupOf, plainOf, answerOf}
 use Rattle.lookup.specs.Consult.{Place, runIn, consultOf}
 use Rattle.lookup.specs.Sampler.{pastOf, laneOf, topFault, Sample, hit, miss, sampleOf, sampleIn, onward, topOf}
-use Rattle.lookup.specs.Batch.{laneId, wordFor, recordOf, recordAt, recordsOf, pointsIn, topsOf}
+use Rattle.lookup.specs.Batch.{recordWords, laneId, wordFor, recordOf, recordAt, recordsOf, pointsIn, topsOf}
 use Rattle.lookup.specs.Record.{plainSample, RecordFits}
 use Rattle.lookup.specs.Laws.Scan.{scan-found}
 use Rattle.lookup.specs.Laws.Plain.{covers-below}
@@ -49,7 +49,7 @@ lane-word ss w t =
 module _ (m : Mesh) (x y : Float) (f : meshFault m ≡ fine) where
   triangle-word : (seq : ℕ → ℕ) (n : ℕ) {h : Float} {t : ℕ} → scanOf (m .vertices) (m .indices) x y seq n ≡ At h t → t < 4294967296
   triangle-word seq n {h} {t} e =
-      let l = covers-below m x y t (scan-found (m .vertices) (m .indices) x y seq n e .covered) in
+      let l = covers-below m x y t (scan-found (m .vertices) (m .indices) x y seq n e .counted) in
       let o = in-order m f in
       omega (arith, l, o .indices)
 
@@ -98,27 +98,27 @@ plain-words m x y a e = go (meshFault m) refl e
 
 -- ---- many points
 
--- a record has eight words
-pub record-eight : (a : Answer Sample) → length (recordOf a) ≡ 8
+-- a record has its width
+pub record-width : (a : Answer Sample) → length (recordOf a) ≡ recordWords
 unfolding recordOf
-record-eight (taken (hit h n t l)) = refl
-record-eight (taken miss) = refl
-record-eight (refused number place) = refl
+record-width (taken (hit h n t d)) = refl
+record-width (taken miss) = refl
+record-width (refused number place) = refl
 
--- of pieces of eight words one after another, piece k
-piece : (f : ℕ → List ℕ) → ((i : ℕ) → length (f i) ≡ 8) → (n k : ℕ) (rest : List ℕ) → k < n → take 8 (drop (8 * k) (gather f n ++ rest)) ≡ f k
+-- of pieces of that width one after another, piece k
+piece : (f : ℕ → List ℕ) → ((i : ℕ) → length (f i) ≡ recordWords) → (n k : ℕ) (rest : List ℕ) → k < n → take recordWords (drop (recordWords * k) (gather f n ++ rest)) ≡ f k
 unfolding gather
 piece f e zero k rest l = absurd (omega arith)
 piece f e (suc n) k rest l =
-    ap (λ (xs : List ℕ). take 8 (drop (8 * k) xs)) (append-assoc (gather f n) (f n) rest)
+    ap (λ (xs : List ℕ). take recordWords (drop (recordWords * k) xs)) (append-assoc (gather f n) (f n) rest)
     ∙ ⊎-elim (λ (z : k ≡ n). last z) (λ (z : k < n). piece f e n k (f n ++ rest) z) (eq-or-lt-of-le (le-of-suc-le-suc l))
   where
-    last : k ≡ n → take 8 (drop (8 * k) (gather f n ++ (f n ++ rest))) ≡ f k
-    last z = rw (z, drop-at (gather f n) (f n ++ rest) (8 * n) (gather-even f 8 e n), take-at (f n) rest 8 (e n))
+    last : k ≡ n → take recordWords (drop (recordWords * k) (gather f n ++ (f n ++ rest))) ≡ f k
+    last z = rw (z, drop-at (gather f n) (f n ++ rest) (recordWords * n) (gather-even f recordWords e n), take-at (f n) rest recordWords (e n))
 
 -- a call that is taken leaves, for each point, the record of the single call there
 pub batch-as-single : (m : Mesh) (ws : List ℕ) (ps : List Float) (old : List ℕ) {n : ℕ} → topsOf m ws ps (length old) ≡ taken n → (k : ℕ) → k < pointsIn ps
-    → take 8 (drop (8 * k) (leaves (topsOf m ws ps (length old)) (recordsOf m ws ps) old)) ≡ recordOf (topOf m ws (getD ps (2 * k) nan) (getD ps (2 * k + 1) nan))
+    → take recordWords (drop (recordWords * k) (leaves (topsOf m ws ps (length old)) (recordsOf m ws ps) old)) ≡ recordOf (topOf m ws (getD ps (2 * k) nan) (getD ps (2 * k + 1) nan))
 unfolding leaves recordsOf recordAt
 batch-as-single m ws ps old e k l =
-    rw e (piece (recordAt m ws ps) (λ i. record-eight (topOf m ws (getD ps (2 * i) nan) (getD ps (2 * i + 1) nan))) (pointsIn ps) k _ l)
+    rw e (piece (recordAt m ws ps) (λ i. record-width (topOf m ws (getD ps (2 * i) nan) (getD ps (2 * i + 1) nan))) (pointsIn ps) k _ l)

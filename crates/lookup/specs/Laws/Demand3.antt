@@ -17,14 +17,14 @@ use Rattle.shape.specs.SurfaceMesh.{Given, meshOf}
 use Rattle.shape.specs.Refusal.{Fault, fine, fault, refuse, Answer, taken, refused, judge, leaves}
 use Rattle.lookup.specs.declared.mesh.Best.{Best}
 use Rattle.lookup.specs.declared.mesh.Best.the-variants.{At, Nothing}
-use Rattle.lookup.specs.declared.sampler.Lane.{Lane}
+use Rattle.lookup.specs.declared.sampler.Detail.{Detail}
 use Rattle.lookup.specs.Mesh.{triangles}
 use Rattle.lookup.specs.Box.{inBox}
 use Rattle.lookup.specs.Plain.{entryOf, gives, none, plainOf, answerOf}
 use Rattle.lookup.specs.Winner.{Covers, height, normal, Wins, NoNan}
 use Rattle.lookup.specs.Index.{indexWords, buildOf, roomFault, answerTo, candidatesOf}
 use Rattle.lookup.specs.Consult.{Place, runIn, consultOf}
-use Rattle.lookup.specs.Sampler.{laneOf, Sample, hit, miss, lookupIn, sampleOf, sampleIn, onward, topFault, topOf}
+use Rattle.lookup.specs.Sampler.{Sample, hit, miss, detailOf, lookupIn, sampleOf, sampleIn, onward, topFault, topOf}
 use Rattle.lookup.specs.Demand3.{BuiltFrom, NamesLane, InWords, InBuilt, Demand3}
 use Rattle.lookup.specs.Laws.Heads.{passed}
 use Rattle.lookup.specs.Laws.Plain.{bestOf, covers-below, answer-right, answer-none, plain-winner, run-winner}
@@ -97,58 +97,58 @@ words-fit m ws b q =
 
 -- ---- a hit, whatever the index
 
--- what is given is a covering triangle's: its height, its normal and its lane
-pub record Held (m : Mesh) (x y : Float) (h : Float) (n : Vector) (t : ℕ) (l : Lane) : Type 0 where
+-- what is given is a covering triangle's: its height, its normal, and what else is told of it
+pub record Held (m : Mesh) (x y : Float) (h : Float) (n : Vector) (t : ℕ) (d : Detail) : Type 0 where
   pub covered : Covers m x y t
   pub is-height : h ≡ height m x y t
   pub is-normal : n ≡ normal m x y t
-  pub is-lane : l ≡ laneOf (m .spans) t
+  pub is-detail : d ≡ detailOf m t
 
-module _ (m : Mesh) (ws : List ℕ) (x y : Float) (h : Float) (n : Vector) (t : ℕ) (l : Lane) where
-  held-in : (run : List ℕ) → sampleIn m x y run ≡ hit h n t l → Held m x y h n t l
+module _ (m : Mesh) (ws : List ℕ) (x y : Float) (h : Float) (n : Vector) (t : ℕ) (d : Detail) where
+  held-in : (run : List ℕ) → sampleIn m x y run ≡ hit h n t d → Held m x y h n t d
   unfolding sampleIn sampleOf
   held-in run e = go (bestOf m x y (entryOf run) (length run)) refl e
     where
-      go : (s : Best) → bestOf m x y (entryOf run) (length run) ≡ s → sampleOf m x y s ≡ hit h n t l → Held m x y h n t l
+      go : (s : Best) → bestOf m x y (entryOf run) (length run) ≡ s → sampleOf m x y s ≡ hit h n t d → Held m x y h n t d
       go (At g j) q z =
           let f = scan-found (m .vertices) (m .indices) x y (entryOf run) (length run) q in
           let u : j ≡ t = cc in
           let v : g ≡ h = cc in
           let w : normal m x y j ≡ n = cc in
-          let o : laneOf (m .spans) j ≡ l = cc in
-          rw (← u, ← v, ← w, ← o) (record { covered = f .covered; is-height = f .height; is-normal = refl; is-lane = refl })
+          let o : detailOf m j ≡ d = cc in
+          rw (← u, ← v, ← w, ← o) (record { covered = f .counted; is-height = f .height; is-normal = refl; is-detail = refl })
       go Nothing q z = let u : _≡_ {A = ℕ} 0 1 = cc in absurd (omega arith)
 
-  pub hit-held : topOf m ws x y ≡ taken (hit h n t l) → Held m x y h n t l
+  pub hit-held : topOf m ws x y ≡ taken (hit h n t d) → Held m x y h n t d
   unfolding topOf onward
-  hit-held e = go (consultOf ws (triangles (m .indices)) x y) (judged (topFault m ws) (onward (consultOf ws (triangles (m .indices)) x y) (λ (p : Place). sampleIn m x y (runIn ws p))) (hit h n t l) e .1)
+  hit-held e = go (consultOf ws (triangles (m .indices)) x y) (judged (topFault m ws) (onward (consultOf ws (triangles (m .indices)) x y) (λ (p : Place). sampleIn m x y (runIn ws p))) (hit h n t d) e .1)
     where
-      go : (a : Answer Place) → onward a (λ (p : Place). sampleIn m x y (runIn ws p)) ≡ taken (hit h n t l) → Held m x y h n t l
-      go (taken p) q = held-in (runIn ws p) (one-taken (sampleIn m x y (runIn ws p)) (hit h n t l) q)
+      go : (a : Answer Place) → onward a (λ (p : Place). sampleIn m x y (runIn ws p)) ≡ taken (hit h n t d) → Held m x y h n t d
+      go (taken p) q = held-in (runIn ws p) (one-taken (sampleIn m x y (runIn ws p)) (hit h n t d) q)
       go (refused number place) q = let z : _≡_ {A = ℕ} 0 1 = cc in absurd (omega arith)
 
 -- ---- none where the plain lookup gives none, and never higher, whatever the index
 
 module _ (m : Mesh) (ws : List ℕ) (x y : Float) where
   pub none-where-none : answerOf m x y ≡ taken none → (s : Sample) → topOf m ws x y ≡ taken s → s ≡ miss
-  none-where-none p (hit h n t l) e = absurd (answer-none m x y none p .0 refl t (hit-held m ws x y h n t l e .covered))
+  none-where-none p (hit h n t d) e = absurd (answer-none m x y none p .0 refl t (hit-held m ws x y h n t d e .covered))
   none-where-none p miss e = refl
 
   pub never-higher : NoNan m x y → (h : Float) (n : Vector) (k : ℕ) → answerOf m x y ≡ taken (gives h n k)
-      → (h′ : Float) (n′ : Vector) (k′ : ℕ) (l : Lane) → topOf m ws x y ≡ taken (hit h′ n′ k′ l) → T (le h′ h)
-  never-higher nn h n k p h′ n′ k′ l e =
+      → (h′ : Float) (n′ : Vector) (k′ : ℕ) (d : Detail) → topOf m ws x y ≡ taken (hit h′ n′ k′ d) → T (le h′ h)
+  never-higher nn h n k p h′ n′ k′ d e =
       let r = answer-right m x y nn (gives h n k) p in
-      let g = hit-held m ws x y h′ n′ k′ l e in
+      let g = hit-held m ws x y h′ n′ k′ d e in
       rw (g .is-height, r .1) (r .0 .greatest k′ (g .covered))
 
 -- ---- the lane: over a mesh that came from lanes, a hit names the lane whose strip holds the triangle
 
-pub lane-named : (g : Given) (ws : List ℕ) (x y : Float) (h : Float) (n : Vector) (t : ℕ) (l : Lane)
-    → topOf (meshOf g) ws x y ≡ taken (hit h n t l) → NamesLane g t l
-lane-named g ws x y h n t l e =
-    let k = hit-held (meshOf g) ws x y h n t l e in
+pub lane-named : (g : Given) (ws : List ℕ) (x y : Float) (h : Float) (n : Vector) (t : ℕ) (d : Detail)
+    → topOf (meshOf g) ws x y ≡ taken (hit h n t d) → NamesLane g t (d .lane)
+lane-named g ws x y h n t d e =
+    let k = hit-held (meshOf g) ws x y h n t d e in
     let s = strip-of g t (covers-below (meshOf g) x y t (k .covered)) in
-    record { of = s .of; in-strip = s .in-strip; named = k .is-lane ∙ strip-lane g t (s .of) (s .in-strip) }
+    record { of = s .of; in-strip = s .in-strip; named = ap (λ (i : Detail). i .lane) (k .is-detail) ∙ strip-lane g t (s .of) (s .in-strip) }
 
 -- ---- an index that was built from the mesh
 
@@ -187,7 +187,7 @@ module _ (m : Mesh) (ws : List ℕ) (b : BuiltFrom m ws) (x y : Float) where
   -- ---- the winner, where its grown box holds the point
 
   pub winner-in-box : (k : ℕ) → Wins m x y k → inBox (m .vertices) (m .indices) k x y ≡ true
-      → (s : Sample) → topOf m ws x y ≡ taken s → s ≡ hit (height m x y k) (normal m x y k) k (laneOf (m .spans) k)
+      → (s : Sample) → topOf m ws x y ≡ taken s → s ≡ hit (height m x y k) (normal m x y k) k (detailOf m k)
   unfolding sampleIn sampleOf
   winner-in-box k w i s e =
       let c = candidatesOf (m .vertices) (m .indices) x y in
@@ -215,7 +215,7 @@ in-words m ws x y =
     record {
       indexed-none = none-where-none m ws x y;
       never-higher = never-higher m ws x y;
-      lane = λ g q h n t l e. lane-named g ws x y h n t l (subst (λ (o : Mesh). topOf o ws x y ≡ taken (hit h n t l)) q e);
+      lane = λ g q h n t d e. lane-named g ws x y h n t d (subst (λ (o : Mesh). topOf o ws x y ≡ taken (hit h n t d)) q e);
     }
 
 in-built : (m : Mesh) (ws : List ℕ) → BuiltFrom m ws → (x y : Float) → InBuilt m ws x y

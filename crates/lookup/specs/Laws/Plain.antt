@@ -67,7 +67,7 @@ module _ (m : Mesh) (x y : Float) where
   leader-wins : NoNan m x y → (h : Float) (k : ℕ) → Leads (m .vertices) (m .indices) x y (λ t. t) (triangles (m .indices)) h k → Wins m x y k
   leader-wins nn h k l =
       record {
-        covered = l .covered;
+        covered = l .counted;
         greatest = λ j c. subst (λ (z : Float). T (le (height m x y j) z)) (l .height) (l .greatest (numbers nn) j (covers-below m x y j c) c);
         lowest = λ j c e. low j c e (decLt j (l .at));
       }
@@ -152,8 +152,8 @@ module _ (m : Mesh) (x y : Float) where
       same-leader Nothing l = absurd (l q within covered-there)
       same-leader (At g j) l =
           let up : T (le (height m x y k) (height m x y j)) = rw (named, l .height) at (l .greatest (numbers nn) q within covered-there) in
-          let down : T (le (height m x y j) (height m x y k)) = w .greatest j (l .covered) in
-          let low : k ≤ j = w .lowest j (l .covered) (le-antisym (height m x y j) (height m x y k) down up) in
+          let down : T (le (height m x y j) (height m x y k)) = w .greatest j (l .counted) in
+          let low : k ≤ j = w .lowest j (l .counted) (le-antisym (height m x y j) (height m x y k) down up) in
           let high : j ≤ k =
           rw (l .named)
           (at-most (l .at) (λ b. l .first (numbers nn) q b covered-there (rw (named, l .height) down)) (l .below)) in

@@ -1,5 +1,5 @@
--- What a scan over any sequence of triangle numbers finds: a covering triangle of the sequence, none exactly where none of it covers, and where no height is
--- a NaN the highest, the first among equals. Assumes nothing.
+-- What a scan over any sequence of numbers finds, whichever of them count: one of the sequence that counts, nothing exactly where none of it counts, and where no
+-- height is a NaN the highest, the first among equals. So for triangles that cover a point. Assumes nothing.
 use Prim.Native.Nat.{ℕ, zero, suc, _<_}
 use native.Mathlib.Omega.{arith}
 use native.Mathlib.Decide.{decLt}
@@ -12,7 +12,9 @@ use Rattle.rounding.specs.Laws.Order.{IsNum, le-refl, le-trans, le-of-lt, lt-of
 use Rattle.lookup.specs.declared.mesh.Best.{Best}
 use Rattle.lookup.specs.declared.mesh.Best.the-variants.{At, Nothing}
 use Rattle.lookup.specs.Cover.{covers, heightOf}
-use Rattle.lookup.specs.Plain.{scanOf, higherOf}
+use Rattle.lookup.specs.Fold.{countedOf}
+use Rattle.lookup.specs.Plain.{higherOf, scanBy, scanOf}
+use Rattle.lookup.specs.Laws.Fold.{Names, same-counted, same-fold}
 
 -- what holds of each number below n, and of n, holds of each below suc n
 upto : (P : ℕ → Type 0) (n : ℕ) → ((q : ℕ) → q < n → P q) → P n → (q : ℕ) → q < suc n → P q
@@ -22,65 +24,67 @@ upto P n f p q h = go (decLt q n)
     go (yes l) = f q l
     go (no l) = subst P (omega arith) p
 
--- the heights of the covering triangles are numbers
-abbrev pub Numbers : List Float → List ℕ → Float → Float → Type 0
-Numbers vs is x y = (j : ℕ) → T (covers vs is j x y) → IsNum (heightOf vs is j x y)
+-- ---- under any rule: which numbers count, and their heights
 
--- triangle k leads with height h after n triangles of a sequence
-pub record Leads (vs : List Float) (is : List ℕ) (x y : Float) (seq : ℕ → ℕ) (n : ℕ) (h : Float) (k : ℕ) : Type 0 where
+-- the heights of those that count are numbers
+abbrev pub NumbersBy : (ℕ → Bool) → (ℕ → Float) → Type 0
+NumbersBy c h = (j : ℕ) → T (c j) → IsNum (h j)
+
+-- number k leads with height g after n numbers of a sequence
+pub record LeadsBy (c : ℕ → Bool) (h : ℕ → Float) (seq : ℕ → ℕ) (n : ℕ) (g : Float) (k : ℕ) : Type 0 where
   pub at : ℕ
   pub below : at < n
   pub named : k ≡ seq at
-  pub covered : T (covers vs is k x y)
-  pub height : h ≡ heightOf vs is k x y
-  pub greatest : Numbers vs is x y → (q : ℕ) → q < n → T (covers vs is (seq q) x y) → T (le (heightOf vs is (seq q) x y) h)
-  pub first : Numbers vs is x y → (q : ℕ) → q < at → T (covers vs is (seq q) x y) → T (le h (heightOf vs is (seq q) x y)) → ⊥
+  pub counted : T (c k)
+  pub height : g ≡ h k
+  pub greatest : NumbersBy c h → (q : ℕ) → q < n → T (c (seq q)) → T (le (h (seq q)) g)
+  pub first : NumbersBy c h → (q : ℕ) → q < at → T (c (seq q)) → T (le g (h (seq q))) → ⊥
 
-abbrev pub Leading : (vs : List Float) (is : List ℕ) (x y : Float) (seq : ℕ → ℕ) (n : ℕ) → Best → Type 0
-Leading vs is x y seq n Nothing = (q : ℕ) → q < n → T (covers vs is (seq q) x y) → ⊥
-Leading vs is x y seq n (At h k) = Leads vs is x y seq n h k
+abbrev pub LeadingBy : (c : ℕ → Bool) (h : ℕ → Float) (seq : ℕ → ℕ) (n : ℕ) → Best → Type 0
+LeadingBy c h seq n Nothing = (q : ℕ) → q < n → T (c (seq q)) → ⊥
+LeadingBy c h seq n (At g k) = LeadsBy c h seq n g k
 
-module _ (vs : List Float) (is : List ℕ) (x y : Float) (seq : ℕ → ℕ) where
-  skip : (n : ℕ) (s : Best) → (T (covers vs is (seq n) x y) → ⊥) → Leading vs is x y seq n s → Leading vs is x y seq (suc n) s
-  skip n Nothing c l = upto (λ q. T (covers vs is (seq q) x y) → ⊥) n l c
-  skip n (At h k) c l =
+module _ (c : ℕ → Bool) (h : ℕ → Float) (seq : ℕ → ℕ) where
+  skip : (n : ℕ) (s : Best) → (T (c (seq n)) → ⊥) → LeadingBy c h seq n s → LeadingBy c h seq (suc n) s
+  skip n Nothing off l = upto (λ q. T (c (seq q)) → ⊥) n l off
+  skip n (At g k) off l =
       record {
         at = l .at;
         below = omega (arith, l .below);
         named = l .named;
-        covered = l .covered;
+        counted = l .counted;
         height = l .height;
-        greatest = λ num. upto (λ q. T (covers vs is (seq q) x y) → T (le (heightOf vs is (seq q) x y) h)) n (l .greatest num) (λ d. absurd (c d));
+        greatest = λ num. upto (λ q. T (c (seq q)) → T (le (h (seq q)) g)) n (l .greatest num) (λ d. absurd (off d));
         first = l .first;
       }
 
-  join : (n : ℕ) (s : Best) → T (covers vs is (seq n) x y) → Leading vs is x y seq n s → Leading vs is x y seq (suc n) (higherOf s (heightOf vs is (seq n) x y) (seq n))
+  join : (n : ℕ) (s : Best) → T (c (seq n)) → LeadingBy c h seq n s → LeadingBy c h seq (suc n) (higherOf s (h (seq n)) (seq n))
   unfolding higherOf
-  join n Nothing c l =
+  join n Nothing on l =
       record {
         at = n;
         below = omega arith;
         named = refl;
-        covered = c;
+        counted = on;
         height = refl;
         greatest =
             λ num.
-            upto (λ q. T (covers vs is (seq q) x y) → T (le (heightOf vs is (seq q) x y) (heightOf vs is (seq n) x y))) n
+            upto (λ q. T (c (seq q)) → T (le (h (seq q)) (h (seq n)))) n
             (λ q b d. absurd (l q b d))
             (λ d. le-refl _ (num (seq n) d));
         first = λ num q b d. absurd (l q b d);
       }
-  join n (At g k) c l = go (le (heightOf vs is (seq n) x y) g) refl
+  join n (At g k) on l = go (le (h (seq n)) g) refl
     where
-      go : (b : Bool) → le (heightOf vs is (seq n) x y) g ≡ b → Leading vs is x y seq (suc n) (cond b (At g k) (At (heightOf vs is (seq n) x y) (seq n)))
+      go : (b : Bool) → le (h (seq n)) g ≡ b → LeadingBy c h seq (suc n) (cond b (At g k) (At (h (seq n)) (seq n)))
       go true e =
           record {
             at = l .at;
             below = omega (arith, l .below);
             named = l .named;
-            covered = l .covered;
+            counted = l .counted;
             height = l .height;
-            greatest = λ num. upto (λ q. T (covers vs is (seq q) x y) → T (le (heightOf vs is (seq q) x y) g)) n (l .greatest num) (λ d. T-of e);
+            greatest = λ num. upto (λ q. T (c (seq q)) → T (le (h (seq q)) g)) n (l .greatest num) (λ d. T-of e);
             first = l .first;
           }
       go false e =
@@ -88,36 +92,72 @@ module _ (vs : List Float) (is : List ℕ) (x y : Float) (seq : ℕ → ℕ) whe
             at = n;
             below = omega arith;
             named = refl;
-            covered = c;
+            counted = on;
             height = refl;
             greatest =
                 λ num.
-                upto (λ q. T (covers vs is (seq q) x y) → T (le (heightOf vs is (seq q) x y) (heightOf vs is (seq n) x y))) n
+                upto (λ q. T (c (seq q)) → T (le (h (seq q)) (h (seq n)))) n
                 (λ q b d. le-trans _ g _ (l .greatest num q b d) (up num))
                 (λ d. le-refl _ (num (seq n) d));
-            first = λ num q b d t. not-T-of e (le-trans (heightOf vs is (seq n) x y) (heightOf vs is (seq q) x y) g t (l .greatest num q b d));
+            first = λ num q b d t. not-T-of e (le-trans (h (seq n)) (h (seq q)) g t (l .greatest num q b d));
           }
         where
-          up : Numbers vs is x y → T (le g (heightOf vs is (seq n) x y))
-          up num = le-of-lt g _ (lt-of-not-le _ g (num (seq n) c) (subst IsNum (sym (l .height)) (num k (l .covered))) e)
+          up : NumbersBy c h → T (le g (h (seq n)))
+          up num = le-of-lt g _ (lt-of-not-le _ g (num (seq n) on) (subst IsNum (sym (l .height)) (num k (l .counted))) e)
 
-  step : (n : ℕ) (b : Bool) → covers vs is (seq n) x y ≡ b → (s : Best) → Leading vs is x y seq n s → Leading vs is x y seq (suc n) (cond b (higherOf s (heightOf vs is (seq n) x y) (seq n)) s)
-  step n true c s l = join n s (T-of c) l
-  step n false c s l = skip n s (not-T-of c) l
+  step : (n : ℕ) (b : Bool) → c (seq n) ≡ b → (s : Best) → LeadingBy c h seq n s → LeadingBy c h seq (suc n) (cond b (higherOf s (h (seq n)) (seq n)) s)
+  step n true e s l = join n s (T-of e) l
+  step n false e s l = skip n s (not-T-of e) l
 
-  pub scan-leads : (n : ℕ) → Leading vs is x y seq n (scanOf vs is x y seq n)
-  unfolding scanOf
-  scan-leads zero = λ q b. absurd (omega arith)
-  scan-leads (suc n) = step n (covers vs is (seq n) x y) refl (scanOf vs is x y seq n) (scan-leads n)
+  pub by-leads : (n : ℕ) → LeadingBy c h seq n (scanBy c h Nothing seq n)
+  unfolding scanBy
+  by-leads zero = λ q b. absurd (omega arith)
+  by-leads (suc n) = step n (c (seq n)) refl (scanBy c h Nothing seq n) (by-leads n)
 
   -- what it finds
-  pub scan-found : (n : ℕ) {h : Float} {k : ℕ} → scanOf vs is x y seq n ≡ At h k → Leads vs is x y seq n h k
-  scan-found n e = subst (Leading vs is x y seq n) e (scan-leads n)
+  pub by-found : (n : ℕ) {g : Float} {k : ℕ} → scanBy c h Nothing seq n ≡ At g k → LeadsBy c h seq n g k
+  by-found n e = subst (LeadingBy c h seq n) e (by-leads n)
 
-  -- it finds nothing where nothing covers
-  nothing-of : (n : ℕ) → ((q : ℕ) → q < n → T (covers vs is (seq q) x y) → ⊥) → (s : Best) → Leading vs is x y seq n s → s ≡ Nothing
+  -- it finds nothing where nothing counts
+  nothing-of : (n : ℕ) → ((q : ℕ) → q < n → T (c (seq q)) → ⊥) → (s : Best) → LeadingBy c h seq n s → s ≡ Nothing
   nothing-of n none Nothing l = refl
-  nothing-of n none (At h k) l = absurd (none (l .at) (l .below) (subst (λ (j : ℕ). T (covers vs is j x y)) (l .named) (l .covered)))
+  nothing-of n none (At g k) l = absurd (none (l .at) (l .below) (subst (λ (j : ℕ). T (c j)) (l .named) (l .counted)))
 
-  pub scan-nothing : (n : ℕ) → ((q : ℕ) → q < n → T (covers vs is (seq q) x y) → ⊥) → scanOf vs is x y seq n ≡ Nothing
-  scan-nothing n none = nothing-of n none (scanOf vs is x y seq n) (scan-leads n)
+  pub by-nothing : (n : ℕ) → ((q : ℕ) → q < n → T (c (seq q)) → ⊥) → scanBy c h Nothing seq n ≡ Nothing
+  by-nothing n none = nothing-of n none (scanBy c h Nothing seq n) (by-leads n)
+
+-- ---- the best depends on the numbers that count and their order alone, NaN or not, from any start
+
+module _ (c : ℕ → Bool) (h : ℕ → Float) (start : Best) where
+  pub by-same : (p q : ℕ → ℕ) (m n : ℕ) → countedOf c p m ≡ countedOf c q n → scanBy c h start p m ≡ scanBy c h start q n
+  unfolding scanBy
+  by-same p q m n e = same-counted c c (λ best t. higherOf best (h t) t) start p q m n e
+
+  -- a rising run of numbers below n that names each that counts is as good as all of them
+  pub by-rising : (seq : ℕ → ℕ) (len n : ℕ) → Names c seq len n → scanBy c h start seq len ≡ scanBy c h start (λ t. t) n
+  unfolding scanBy
+  by-rising seq len n k = same-fold c (λ best t. higherOf best (h t) t) start n len seq k
+
+-- ---- document 01's rule: triangles that cover the point
+
+module _ (vs : List Float) (is : List ℕ) (x y : Float) where
+  abbrev pub Numbers : Type 0
+  Numbers = NumbersBy (λ t. covers vs is t x y) (λ t. heightOf vs is t x y)
+
+  abbrev pub Leads : (ℕ → ℕ) → ℕ → Float → ℕ → Type 0
+  Leads = LeadsBy (λ t. covers vs is t x y) (λ t. heightOf vs is t x y)
+
+  abbrev pub Leading : (ℕ → ℕ) → ℕ → Best → Type 0
+  Leading = LeadingBy (λ t. covers vs is t x y) (λ t. heightOf vs is t x y)
+
+  pub scan-leads : (seq : ℕ → ℕ) (n : ℕ) → Leading seq n (scanOf vs is x y seq n)
+  unfolding scanOf
+  scan-leads = by-leads (λ t. covers vs is t x y) (λ t. heightOf vs is t x y)
+
+  pub scan-found : (seq : ℕ → ℕ) (n : ℕ) {h : Float} {k : ℕ} → scanOf vs is x y seq n ≡ At h k → Leads seq n h k
+  unfolding scanOf
+  scan-found seq n e = by-found (λ t. covers vs is t x y) (λ t. heightOf vs is t x y) seq n e
+
+  pub scan-nothing : (seq : ℕ → ℕ) (n : ℕ) → ((q : ℕ) → q < n → T (covers vs is (seq q) x y) → ⊥) → scanOf vs is x y seq n ≡ Nothing
+  unfolding scanOf
+  scan-nothing = by-nothing (λ t. covers vs is t x y) (λ t. heightOf vs is t x y)

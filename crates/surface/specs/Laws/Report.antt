@@ -19,7 +19,7 @@ use Rattle.lookup.specs.Demand3.{BuiltFrom}
 use Rattle.lookup.specs.Sampler.{Sample, hit, miss, sampleIn, topFault, topOf}
 use Rattle.lookup.specs.Consult.{headFault, consultOf}
 use Rattle.lookup.specs.Mesh.{triangles}
-use Rattle.lookup.specs.Batch.{recordOf, recordAt, recordsOf, countAnswer, topsOf}
+use Rattle.lookup.specs.Batch.{recordWords, recordOf, recordAt, recordsOf, countAnswer, topsOf}
 use Rattle.lookup.specs.Laws.Index.{Hands, hands}
 use Rattle.lookup.specs.Laws.Limits.{judged}
 use Rattle.lookup.specs.Laws.Demand3.{top-taken, words-fit}
@@ -45,7 +45,7 @@ unfolding lineAt lineOf
 line-few ws k = go (sampleAt ws k)
   where
     go : (s : Sample) → length (lineOf ws k s) ≤ 100
-    go (hit h n t l) = found-few k h n t (laneOf ws t)
+    go (hit h n t d) = found-few k h n t (laneOf ws t)
     go miss = none-few k
 
 -- of the first n lines
@@ -191,7 +191,7 @@ module _ (ws : List ℕ) (few : length ws ≤ 16384) {n : ℕ} (t : buildOf (mes
       judged (headFault (indexWords vs is) (triangles is)) _ _ e .0
 
   -- "all questions by one call": it is taken, whatever the lookup judges of the index, which was built from the mesh
-  pub all-taken : topsOf (meshIn ws) (indexIn ws) (pointsOf ws) 16384 ≡ taken (countKind ws 3)
+  pub all-taken : topsOf (meshIn ws) (indexIn ws) (pointsOf ws) (2048 * recordWords) ≡ taken (countKind ws 3)
   unfolding topsOf countAnswer refuse uneven judge topOf meshIn
   all-taken =
       let x = nan in
@@ -200,8 +200,8 @@ module _ (ws : List ℕ) (few : length ws ≤ 16384) {n : ℕ} (t : buildOf (mes
       let n = length (pointsOf ws) in
       let even : n % 2 ≡ 0 = omega (arith, points-length ws) in
       let half : n / 2 ≡ k = omega (arith, points-length ws) in
-      let room : 8 * k ≤ 16384 = omega (arith, kind-most ws 3 few) in
-      rw (f, eq-eqb (n % 2) 0 even, head-fine, half, le-ltb 16384 (8 * k) room)
+      let room : recordWords * k ≤ 2048 * recordWords = omega (arith, kind-most ws 3 few) in
+      rw (f, eq-eqb (n % 2) 0 even, head-fine, half, le-ltb (2048 * recordWords) (recordWords * k) room)
 
   -- and it leaves the records of the questions' answers
   record-is : (k : ℕ) → k < countKind ws 3 → recordAt (meshIn ws) (indexIn ws) (pointsOf ws) k ≡ recordIn ws k

@@ -5,7 +5,7 @@ use lib.Ieee.{Float}
 use Rattle.vector.specs.declared.coords.Vector.{Vector}
 use Rattle.shape.specs.declared.refusal.Refusal.{Refusal}
 use Rattle.shape.specs.Refusal.{placeOf}
-use Rattle.lookup.specs.declared.sampler.Lane.{Lane}
+use Rattle.lookup.specs.declared.sampler.Detail.{Detail}
 use Rattle.lookup.specs.declared.sampler.Sampled.{Sampled}
 use Rattle.lookup.specs.declared.sampler.Sampled.the-variants.{Found, Refused}
 use Rattle.lookup.specs.Sampler.{readSampled}
@@ -16,7 +16,7 @@ use borrow.Author.Needs.{needs}
 use Rattle.lookup.proofs.record.put_record.Statement.{statement}
 use Rattle.lookup.proofs.record.put_record.Tie as tie
 
-found-words : {s : Sampled} {h : Float} {n : Vector} {t : ℕ} {l : Lane} → s ≡ Found h n t l → RecordFits (readSampled s) → (t < 4294967296) × (laneId l < 4294967296)
+found-words : {s : Sampled} {h : Float} {n : Vector} {t : ℕ} {d : Detail} → s ≡ Found h n t d → RecordFits (readSampled s) → (t < 4294967296) × (laneId (d .lane) < 4294967296)
 unfolding RecordFits readSampled
 found-words e w = rw e at w
 

@@ -8,15 +8,15 @@ use Rattle.shape.specs.Memory.{Put}
 use Rattle.shape.specs.Refusal.{taken, numberOf, placeOf}
 use Rattle.shape.specs.Laws.Memory.{put-none, put-turn, put-length}
 use Rattle.lookup.specs.Sampler.{miss, readSampled}
-use Rattle.lookup.specs.Batch.{recordOf, readSampling}
+use Rattle.lookup.specs.Batch.{recordWords, recordOf, readSampling}
 use Rattle.lookup.specs.Record.{RecordFits}
-use Rattle.lookup.proofs.Batches.{record-next, same-eight, count-short, count-all}
+use Rattle.lookup.proofs.Batches.{record-next, same-width, count-short, count-all}
 use borrow.Author.Needs.{needs}
 use Rattle.lookup.proofs.sampler.tops_empty.Statement.{statement}
 use Rattle.lookup.proofs.sampler.tops_empty.Tie as tie
 
 abbrev Inv-loop : tie.InvT-loop
-Inv-loop points answers₀ n at₀ k₀ answers at k = Put answers₀ answers 0 (gather (λ (i : ℕ). recordOf (taken miss)) k) at × ((at ≡ 8 * k) × (k ≤ n))
+Inv-loop points answers₀ n at₀ k₀ answers at k = Put answers₀ answers 0 (gather (λ (i : ℕ). recordOf (taken miss)) k) at × ((at ≡ recordWords * k) × (k ≤ n))
 
 abbrev μ-loop : tie.MeasureT-loop
 μ-loop points answers₀ n at₀ k₀ answers at k = n - k
@@ -64,7 +64,7 @@ unfolding readSampling
 returns-2 c =
     let l = c .before .loop in
     let e : l .k ≡ length (c .before .before .before .before .before .args .points .now) / 2 = omega arith in
-    count-all _ _ _ (same-eight (taken miss) _) (omega (arith, c .before .before .if1 .left)) (rw e at (l .inv .0))
+    count-all _ _ _ (same-width (taken miss) _) (omega (arith, c .before .before .if1 .left)) (rw e at (l .inv .0))
 
 pub tops-empty-spec : {M : Type 1} → statement M
 tops-empty-spec =

@@ -8,15 +8,15 @@ use Rattle.shape.specs.Lists.{Mesh, meshLists}
 use Rattle.shape.specs.Memory.{Put}
 use Rattle.shape.specs.Refusal.{numberOf, placeOf}
 use Rattle.shape.specs.Laws.Memory.{put-none, put-turn, put-length}
-use Rattle.lookup.specs.Batch.{recordAt, recordsOf, readSampling}
-use Rattle.lookup.proofs.Batches.{at-next, all-eight, count-short, count-all}
+use Rattle.lookup.specs.Batch.{recordWords, recordAt, recordsOf, readSampling}
+use Rattle.lookup.proofs.Batches.{at-next, all-width, count-short, count-all}
 use borrow.Author.Needs.{needs}
 use Rattle.lookup.proofs.sampler.tops_open.Statement.{statement}
 use Rattle.lookup.proofs.sampler.tops_open.Tie as tie
 
 abbrev Inv-loop : tie.InvT-loop
 Inv-loop vertices normals indices spans index h points answers₀ n at₀ k₀ answers at k =
-    Put answers₀ answers 0 (gather (recordAt (meshLists vertices normals indices spans) index points) k) at × ((at ≡ 8 * k) × (k ≤ n))
+    Put answers₀ answers 0 (gather (recordAt (meshLists vertices normals indices spans) index points) k) at × ((at ≡ recordWords * k) × (k ≤ n))
 
 abbrev μ-loop : tie.MeasureT-loop
 μ-loop vertices normals indices spans index h points answers₀ n at₀ k₀ answers at k = n - k
@@ -72,7 +72,7 @@ returns-2 c =
     let l = c .before .loop in
     let s = S (c .before .before .before) in
     let e : l .k ≡ length (s .args .points .now) / 2 = omega arith in
-    count-all _ _ _ (all-eight (M s) (s .args .index .now) (s .args .points .now)) (omega (arith, c .before .before .if1 .left)) (rw e at (l .inv .0))
+    count-all _ _ _ (all-width (M s) (s .args .index .now) (s .args .points .now)) (omega (arith, c .before .before .if1 .left)) (rw e at (l .inv .0))
 
 pub tops-open-spec : {M : Type 1} → statement M
 tops-open-spec =
