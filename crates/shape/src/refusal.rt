@@ -1,6 +1,6 @@
 // Why a call is turned back: a case for each word of document 01's table, with the place that it names.
 ghost use mathlib.Core.Path.{_≡_};
-ghost use Rattle.shape.specs.Refusal.{numberOf, placeOf, found, refuse};
+ghost use Rattle.shape.specs.Refusal.{numberOf, placeOf, found, refuse, orElse};
 
 pub enum Refusal {
     // The limit that a list or a result is past.
@@ -78,4 +78,14 @@ pub fn short_if(bad: bool, wanted: usize, after: Check) -> Check
         return Check::Faulty(Refusal::ShortOutput(wanted));
     }
     after
+}
+
+// The first of two faults.
+pub fn or_else(first: Check, after: Check) -> Check
+    ensures { λ r. ⌜ found r ≡ orElse (found first) (found after) ⌝ }
+{
+    match first {
+        Check::Fine => after,
+        Check::Faulty(r) => Check::Faulty(r),
+    }
 }
