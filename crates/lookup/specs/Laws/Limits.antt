@@ -1,5 +1,5 @@
 -- What it means that the indexed lookup's input is in order, and the refusals that it may have. Assumes nothing.
-use Prim.Native.Nat.{ℕ, _/_, _≤_}
+use Prim.Native.Nat.{ℕ, _+_, _/_, _≤_}
 use mathlib.Core.Path.{_≡_, refl}
 use mathlib.Core.Bool.{Bool, false}
 use mathlib.Core.List.{List}
@@ -26,25 +26,25 @@ module _ (P : ℕ → ℕ → Type 0) (over : (p : ℕ) → P 1 p) (ragged : (p 
   limits-hold : (m : Mesh) → Holds P (meshLimits m)
   unfolding meshLimits
   limits-hold m =
-      holds-refuse P _ 1 65536 _ (over _)
-      (holds-refuse P _ 1 65536 _ (over _)
-      (holds-refuse P _ 1 196608 _ (over _)
-      (holds-refuse P _ 1 1024 _ (over _) (holds-fine P))))
+      holds-refuse P (longer 3 65536 (m .vertices)) 1 65536 _ (over _)
+      (holds-refuse P (longer 3 65536 (m .normals)) 1 65536 _ (over _)
+      (holds-refuse P (longer 1 196608 (m .indices)) 1 196608 _ (over _)
+      (holds-refuse P (longer 5 1024 (m .spans)) 1 1024 fine (over _) (holds-fine P))))
 
   ragged-hold : (p : ℕ) (m : Mesh) → Holds P (meshRagged p m)
   unfolding meshRagged
   ragged-hold p m =
-      holds-refuse P _ 2 _ _ (ragged _)
-      (holds-refuse P _ 2 _ _ (ragged _)
-      (holds-refuse P _ 2 _ _ (ragged _)
-      (holds-refuse P _ 2 _ _ (ragged _)
-      (holds-refuse P _ 2 _ _ (ragged _) (holds-fine P)))))
+      holds-refuse P (uneven 3 (m .vertices)) 2 p _ (ragged _)
+      (holds-refuse P (uneven 3 (m .normals)) 2 (p + 1) _ (ragged _)
+      (holds-refuse P (uneven 5 (m .spans)) 2 (p + 3) _ (ragged _)
+      (holds-refuse P (any (runBad 5 1 (m .spans) (length (m .vertices) / 3)) (length (m .spans) / 5)) 2 (p + 3) _ (ragged _)
+      (holds-refuse P (any (runBad 5 3 (m .spans) (length (m .indices))) (length (m .spans) / 5)) 2 (p + 3) fine (ragged _) (holds-fine P)))))
 
   input-holds : (m : Mesh) (ws : List ℕ) → Holds P (topFault m ws)
   unfolding topFault
   input-holds m ws =
       holds-else P (meshLimits m) _ (limits-hold m)
-      (λ e. holds-else P (refuse (longer 1 4194304 ws) 1 4194304 fine) _ (holds-refuse P _ 1 4194304 _ (over _) (holds-fine P))
+      (λ e. holds-else P (refuse (longer 1 4194304 ws) 1 4194304 fine) _ (holds-refuse P (longer 1 4194304 ws) 1 4194304 fine (over _) (holds-fine P))
       (λ f. ragged-hold 0 m))
 
 -- only consulting the index tells that it is foreign
