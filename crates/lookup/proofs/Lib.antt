@@ -9,7 +9,6 @@ pub mod Search
 pub mod Batches
 pub mod Digits
 pub mod Blocks
-pub mod Rising
 pub mod Level
 pub mod Picking
 pub mod Places

@@ -7,7 +7,7 @@ use lib.ListN.{length, getD, take, drop}
 use lib.Dec.{leb, ltb, eqb}
 use lib.Ieee.{Float, binary32, ofBits, le}
 use Rattle.lookup.specs.Column.{col}
-use Rattle.shape.specs.Refusal.{Fault, fine, fault, refuse, Answer, taken, refused, judge, numberOf, placeOf}
+use Rattle.shape.specs.Refusal.{Fault, fine, refuse, orElse, Answer, taken, refused, judge}
 
 -- word i, and the single that it stands for
 abbrev pub wordAt : List ℕ → ℕ → ℕ
@@ -53,11 +53,6 @@ startAt ws c = wordAt ws (9 + c)
 
 abbrev pub firstAt : List ℕ → ℕ
 firstAt ws = 10 + wordAt ws 1 * wordAt ws 2
-
--- a fault, or else the next
-unfoldable pub orElse : Fault → Fault → Fault
-orElse fine next = next
-orElse (fault number place) next = fault number place
 
 -- the first of the n entries from a place on that is no triangle
 unfoldable pub entryFault : List ℕ → ℕ → ℕ → ℕ → Fault

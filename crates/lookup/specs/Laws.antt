@@ -11,9 +11,9 @@ pub mod Reading
 pub mod Heads
 pub mod Extent
 pub mod Index
+pub mod Faults
 pub mod Spans
 pub mod Limits
 pub mod Lanes
 pub mod Demand3
-pub mod Faults
 pub mod Batch

@@ -6,9 +6,8 @@ use lib.ListN.{length}
 use lib.Dec.{ltb, leb}
 use lib.Ieee.{Float}
 use Rattle.vector.specs.declared.coords.Vector.{Vector}
-use Rattle.shape.specs.Gather.{any}
-use Rattle.shape.specs.Lists.{Mesh, longer, uneven, wordOf, startOf, endOf, runBad}
-use Rattle.shape.specs.Refusal.{Fault, fine, refuse, Answer, taken, refused, judge, numberOf, placeOf}
+use Rattle.shape.specs.Lists.{Mesh, longer, wordOf, startOf, endOf, meshLimits, meshRagged}
+use Rattle.shape.specs.Refusal.{Fault, fine, refuse, orElse, Answer, taken, refused, judge, numberOf, placeOf}
 use Rattle.lookup.specs.declared.mesh.Best.{Best}
 use Rattle.lookup.specs.declared.mesh.Best.the-variants.{At, Nothing}
 use Rattle.lookup.specs.declared.sampler.Lane.{Lane}
@@ -23,29 +22,10 @@ use Rattle.lookup.specs.Consult.{Place, runIn, consultOf}
 
 -- ---- the refusals of the input, where the index is list 4
 
--- the limits of a mesh's lists, and what comes after
-unfoldable pub meshLimits : Mesh → Fault → Fault
-unfolding refuse longer
-meshLimits m after =
-    refuse (longer 3 65536 (m .vertices)) 1 65536
-    (refuse (longer 3 65536 (m .normals)) 1 65536
-    (refuse (longer 1 196608 (m .indices)) 1 196608
-    (refuse (longer 5 1024 (m .spans)) 1 1024 after)))
-
--- its first ragged list
-unfoldable pub meshRagged : Mesh → Fault
-unfolding refuse uneven any runBad
-meshRagged m =
-    refuse (uneven 3 (m .vertices)) 2 0
-    (refuse (uneven 3 (m .normals)) 2 1
-    (refuse (uneven 5 (m .spans)) 2 3
-    (refuse (any (runBad 5 1 (m .spans) (length (m .vertices) / 3)) (length (m .spans) / 5)) 2 3
-    (refuse (any (runBad 5 3 (m .spans) (length (m .indices))) (length (m .spans) / 5)) 2 3 fine))))
-
 -- "order: 1 for input, 2": all limits, the index's 4,194,304 words the last of them, and then what is ragged
 unfoldable pub topFault : Mesh → List ℕ → Fault
-unfolding meshLimits meshRagged
-topFault m ws = meshLimits m (refuse (longer 1 4194304 ws) 1 4194304 (meshRagged m))
+unfolding orElse meshLimits meshRagged refuse longer
+topFault m ws = orElse (meshLimits m) (orElse (refuse (longer 1 4194304 ws) 1 4194304 fine) (meshRagged 0 m))
 
 -- ---- the lane of a triangle. A span's words are its lane's id, the run of its vertices and the run of its indices.
 

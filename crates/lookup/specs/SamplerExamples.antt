@@ -7,8 +7,8 @@ use lib.ListN.{length}
 use lib.Ieee.{Float, add, sub, mul, div, lt, le, eq, neg, ofBits}
 use Rattle.rounding.specs.Extremes.{minOf, maxOf, absOf}
 use Rattle.shape.specs.Gather.{any}
-use Rattle.shape.specs.Refusal.{taken, refused, refuse, judge}
-use Rattle.shape.specs.Lists.{Mesh, meshLists, pointAt, wordOf, longer, uneven, runBad}
+use Rattle.shape.specs.Refusal.{taken, refused, refuse, orElse, judge}
+use Rattle.shape.specs.Lists.{Mesh, meshLists, pointAt, wordOf, longer, uneven, runBad, meshLimits, meshRagged}
 use Rattle.vector.specs.Single.{single, 0f, 1f}
 use Rattle.lookup.specs.declared.sampler.Lane.the-variants.{Id, None}
 use Rattle.lookup.specs.Mesh.{present, cornersOf}
@@ -18,7 +18,7 @@ use Rattle.lookup.specs.Winner.{Covers}
 use Rattle.lookup.specs.Box.{aroundOf, slackOf, grownOf, grownBox, boxOf, within}
 use Rattle.lookup.specs.Frame.{joinOf, extentOf}
 use Rattle.lookup.specs.Index.{candidatesOver, candidatesOf}
-use Rattle.lookup.specs.Sampler.{meshLimits, meshRagged, topFault, pastOf, laneOf, miss, sampleOf, sampleIn, topOf}
+use Rattle.lookup.specs.Sampler.{topFault, pastOf, laneOf, miss, sampleOf, sampleIn, topOf}
 use Rattle.lookup.specs.Batch.{countAnswer, topsOf}
 use Rattle.lookup.specs.Consult.{headFault, sides, declares}
 use Rattle.lookup.specs.Demand3.{BuiltFrom}
@@ -73,5 +73,5 @@ empty = 0 ∷ 0 ∷ 0 ∷ 0 ∷ 0 ∷ 0 ∷ 0 ∷ 0 ∷ 0 ∷ []
 -- a foreign index before a short output, with no points too, and after a point without its y
 judged : (topsOf nothing [] origin 7 ≡ refused 4 0) × (topsOf nothing [] [] 0 ≡ refused 4 0) × (topsOf nothing [] (0f ∷ []) 7 ≡ refused 2 5)
     × (topsOf nothing empty origin 7 ≡ refused 3 8) × (topsOf nothing empty origin 8 ≡ taken 1) × (topsOf nothing empty [] 0 ≡ taken 0)
-unfolding topsOf topFault meshLimits meshRagged longer uneven any runBad headFault sides declares countAnswer refuse judge
+unfolding topsOf topFault orElse meshLimits meshRagged longer uneven any runBad headFault sides declares countAnswer refuse judge
 judged = (refl, refl, refl, refl, refl, refl)

@@ -19,12 +19,12 @@ use crate::sampler::Sampled;
 use crate::sampler::Sampling;
 use crate::sampler::lane_id;
 use crate::sampler::lane_there;
-use crate::sampler::number;
-use crate::sampler::place;
 use crate::sampler::top;
 use crate::sampler::word;
 use rounding::bits::bits32;
 use shape::refusal::Refusal;
+use shape::refusal::number;
+use shape::refusal::place;
 
 // How many words a record has: `recordWords` of the definitions.
 pub const RECORD_WORDS: usize = 8;

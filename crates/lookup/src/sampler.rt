@@ -1,12 +1,11 @@
 // The indexed lookup: the highest of the point's candidates, with the lane that its triangle belongs to.
 ghost use mathlib.Core.Path.{_≡_};
-ghost use mathlib.Core.Bool.{true, false};
+ghost use mathlib.Core.Bool.{true};
 ghost use Prim.Native.Nat.{ℕ, _+_, _-_, _*_, _/_, _<_, _≤_};
-ghost use lib.Dec.{eqb};
 ghost use lib.ListN.{length};
-ghost use Rattle.shape.specs.Gather.{any, gather};
-ghost use Rattle.shape.specs.Refusal.{fine, taken, found, numberOf, placeOf, leaves};
-ghost use Rattle.shape.specs.Lists.{runBad, meshFault, meshLists};
+ghost use Rattle.shape.specs.Gather.{gather};
+ghost use Rattle.shape.specs.Refusal.{fine, taken, found, leaves};
+ghost use Rattle.shape.specs.Lists.{meshLists};
 ghost use Rattle.shape.specs.Memory.{Put};
 ghost use Rattle.lookup.specs.Sampler.{EndsRise, pastOf, laneOf, topFault, miss, readSampled, sampleOf, topOf};
 ghost use Rattle.lookup.specs.Consult.{entryFault};
@@ -28,10 +27,13 @@ use crate::mesh::normal_by;
 use crate::record::RECORD_WORDS;
 use crate::record::put_record;
 use rounding::bits::wide;
-use shape::lists::mesh_fault;
+use shape::lists::mesh_limits;
+use shape::lists::mesh_ragged;
 use shape::lists::record_word;
 use shape::refusal::Check;
 use shape::refusal::Refusal;
+use shape::refusal::or_else;
+use shape::refusal::oversize_if;
 use vector::coords::Vector;
 
 // A lane by its id, or that the spans name none.
@@ -129,94 +131,6 @@ fn lane_of(spans: &[u32], t: usize) -> Lane
     Lane::None
 }
 
-// Is a list past its limit?
-fn oversize(r: Refusal) -> bool
-    ensures { λ b. ⌜ b ≡ eqb (numberOf r) 1 ⌝ }
-{
-    match r {
-        Refusal::Oversize(limit) => true,
-        Refusal::Ragged(list) => false,
-        Refusal::ShortOutput(wanted) => false,
-        Refusal::ForeignIndex(word) => false,
-        Refusal::BadRecord(record) => false,
-    }
-}
-
-// Do the runs of m spans rise, each start from the last end and each end from its start, and do they
-// keep within n vertices and k indices? Asked at every lookup, so in one pass.
-fn runs_rise(spans: &[u32], n: usize, k: usize, m: usize) -> bool
-    requires { ⌜ (m ≤ 1024) × (5 * m ≤ length (now spans)) ⌝ }
-    ensures { λ r. ⌜ (r ≡ true → (any (runBad 5 1 (now (spans .entry)) n) m ≡ false) × (any (runBad 5 3 (now (spans .entry)) k) m ≡ false)) ⌝ }
-{
-    let mut vertex: usize = 0;
-    let mut index: usize = 0;
-    let mut i: usize = 0;
-    while i < m {
-        let at = 5 * i;
-        let a = wide(spans[at + 1]);
-        let b = wide(spans[at + 2]);
-        let c = wide(spans[at + 3]);
-        let d = wide(spans[at + 4]);
-        if a < vertex {
-            return false;
-        }
-        if b < a {
-            return false;
-        }
-        if c < index {
-            return false;
-        }
-        if d < c {
-            return false;
-        }
-        vertex = b;
-        index = d;
-        i += 1;
-    }
-    if n < vertex {
-        return false;
-    }
-    index <= k
-}
-
-// Are the four lists of a mesh in order? No where they are long or uneven; `mesh_fault` then tells why.
-fn in_order(vertices: &[f32], normals: &[f32], indices: &[u32], spans: &[u32]) -> bool
-    ensures { λ r. ⌜ (r ≡ true → meshFault (meshLists (now (vertices .entry)) (now (normals .entry)) (now (indices .entry)) (now (spans .entry))) ≡ fine) ⌝ }
-{
-    if 3 * 65536 < vertices.len() {
-        return false;
-    }
-    if 3 * 65536 < normals.len() {
-        return false;
-    }
-    if 196608 < indices.len() {
-        return false;
-    }
-    if 5 * 1024 < spans.len() {
-        return false;
-    }
-    if vertices.len() % 3 != 0 {
-        return false;
-    }
-    if normals.len() % 3 != 0 {
-        return false;
-    }
-    if spans.len() % 5 != 0 {
-        return false;
-    }
-    runs_rise(spans, vertices.len() / 3, indices.len(), spans.len() / 5)
-}
-
-// Why the four lists of a mesh are turned back, if they are.
-fn mesh_check(vertices: &[f32], normals: &[f32], indices: &[u32], spans: &[u32]) -> Check
-    ensures { λ r. ⌜ found r ≡ meshFault (meshLists (now (vertices .entry)) (now (normals .entry)) (now (indices .entry)) (now (spans .entry))) ⌝ }
-{
-    if in_order(vertices, normals, indices, spans) {
-        return Check::Fine;
-    }
-    mesh_fault(vertices, normals, indices, spans)
-}
-
 // Why the five lists are turned back, if they are: the index's limit comes after the mesh's and before
 // what is ragged.
 fn top_fault(
@@ -226,18 +140,16 @@ fn top_fault(
     spans: &[u32],
     index: &[u32],
 ) -> Check
-    ensures { λ r. ⌜ found r ≡ topFault (meshLists (now (vertices .entry)) (now (normals .entry)) (now (indices .entry)) (now (spans .entry))) (now (index .entry)) ⌝ }
+    ensures { λ r. let m = meshLists (now (vertices .entry)) (now (normals .entry)) (now (indices .entry)) (now (spans .entry)) in ⌜ found r ≡ topFault m (now (index .entry)) ⌝ }
 {
-    let check = mesh_check(vertices, normals, indices, spans);
-    if index.len() <= 4194304 {
-        return check;
+    let limits = or_else(
+        mesh_limits(vertices, normals, indices, spans),
+        oversize_if(4194304 < index.len(), 4194304, Check::Fine),
+    );
+    match limits {
+        Check::Faulty(r) => Check::Faulty(r),
+        Check::Fine => mesh_ragged(0, vertices, normals, indices, spans),
     }
-    if let Check::Faulty(r) = check {
-        if oversize(r) {
-            return Check::Faulty(r);
-        }
-    }
-    Check::Faulty(Refusal::Oversize(4194304))
 }
 
 // Why the entries from a to e are turned back, if they are. They are not where the scan has found each of them
@@ -348,32 +260,6 @@ pub fn word(n: usize) -> u32
         n as u32
     } else {
         0xffff_ffff
-    }
-}
-
-// The refusal's number in document 01's table.
-pub fn number(r: Refusal) -> u32
-    ensures { λ n. ⌜ n ≡ numberOf r ⌝ }
-{
-    match r {
-        Refusal::Oversize(limit) => 1,
-        Refusal::Ragged(list) => 2,
-        Refusal::ShortOutput(wanted) => 3,
-        Refusal::ForeignIndex(word) => 4,
-        Refusal::BadRecord(record) => 5,
-    }
-}
-
-// The place that it names.
-pub fn place(r: Refusal) -> usize
-    ensures { λ n. ⌜ n ≡ placeOf r ⌝ }
-{
-    match r {
-        Refusal::Oversize(limit) => limit,
-        Refusal::Ragged(list) => list,
-        Refusal::ShortOutput(wanted) => wanted,
-        Refusal::ForeignIndex(word) => word,
-        Refusal::BadRecord(record) => record,
     }
 }
 

@@ -14,8 +14,6 @@ ghost use Rattle.surface.specs.File.{readCopied};
 ghost use Rattle.roadsurface.specs.Answers.{codeFor, codeOf, leftIn, bitOf, foundIn, heightPut, kindOf, placePut, indexPut, verticesPut};
 use lookup::grid::Built;
 use lookup::sampler::Sampling;
-use lookup::sampler::number;
-use lookup::sampler::place;
 use lookup::sampler::word;
 use shape::ears::EarAnswer;
 use shape::elevation::Elevation;
@@ -23,6 +21,8 @@ use shape::junction::JunctionAnswer;
 use shape::junction_areas::OutlineAnswer;
 use shape::mesh::MeshAnswer;
 use shape::refusal::Refusal;
+use shape::refusal::number;
+use shape::refusal::place;
 use shape::validate::Verdict;
 use surface::file::Copied;
 

@@ -9,3 +9,4 @@ pub mod Meshing
 pub mod Joining
 pub mod Reaching
 pub mod Verdicts
+pub mod Rising

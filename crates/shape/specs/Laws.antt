@@ -1,6 +1,7 @@
 -- Laws about the definitions, for the proofs here and in the crates above.
 pub mod Gather
 pub mod Memory
+pub mod Refusal
 pub mod Lists
 pub mod SurfaceMesh
 pub mod Outline

@@ -11,7 +11,7 @@ use Rattle.vector.specs.Coords.{zeroVector}
 use Rattle.vector.specs.declared.coords.Point.{Point}
 use Rattle.vector.specs.declared.coords.Vector.{Vector}
 use Rattle.shape.specs.Gather.{any}
-use Rattle.shape.specs.Refusal.{Fault, fine, refuse}
+use Rattle.shape.specs.Refusal.{Fault, fine, refuse, orElse}
 
 -- ---- elements of u numbers
 
@@ -79,15 +79,26 @@ pub record Mesh : Type 0 where
 abbrev pub meshLists : List Float → List Float → List ℕ → List ℕ → Mesh
 meshLists v n i s = record { vertices = v; normals = n; indices = i; spans = s }
 
-unfoldable pub meshFault : Mesh → Fault
-unfolding refuse longer uneven any runBad
-meshFault m =
+-- "order: 1 for input, 2": its limits first, and then what is ragged
+
+unfoldable pub meshLimits : Mesh → Fault
+unfolding refuse longer
+meshLimits m =
     refuse (longer 3 65536 (m .vertices)) 1 65536
     (refuse (longer 3 65536 (m .normals)) 1 65536
     (refuse (longer 1 196608 (m .indices)) 1 196608
-    (refuse (longer 5 1024 (m .spans)) 1 1024
-    (refuse (uneven 3 (m .vertices)) 2 0
-    (refuse (uneven 3 (m .normals)) 2 1
-    (refuse (uneven 5 (m .spans)) 2 3
-    (refuse (any (runBad 5 1 (m .spans) (length (m .vertices) / 3)) (length (m .spans) / 5)) 2 3
-    (refuse (any (runBad 5 3 (m .spans) (length (m .indices))) (length (m .spans) / 5)) 2 3 fine))))))))
+    (refuse (longer 5 1024 (m .spans)) 1 1024 fine)))
+
+-- p is the position of the mesh's first list in the call
+unfoldable pub meshRagged : ℕ → Mesh → Fault
+unfolding refuse uneven any runBad
+meshRagged p m =
+    refuse (uneven 3 (m .vertices)) 2 p
+    (refuse (uneven 3 (m .normals)) 2 (p + 1)
+    (refuse (uneven 5 (m .spans)) 2 (p + 3)
+    (refuse (any (runBad 5 1 (m .spans) (length (m .vertices) / 3)) (length (m .spans) / 5)) 2 (p + 3)
+    (refuse (any (runBad 5 3 (m .spans) (length (m .indices))) (length (m .spans) / 5)) 2 (p + 3) fine))))
+
+unfoldable pub meshFault : Mesh → Fault
+unfolding orElse meshLimits meshRagged
+meshFault m = orElse (meshLimits m) (meshRagged 0 m)

@@ -38,6 +38,11 @@ found (Faulty r) = fault (numberOf r) (placeOf r)
 unfoldable pub refuse : Bool → ℕ → ℕ → Fault → Fault
 refuse b number place after = cond b (fault number place) after
 
+-- the first of two faults
+unfoldable pub orElse : Fault → Fault → Fault
+orElse fine after = after
+orElse (fault number place) after = fault number place
+
 -- the answer to a call: taken, with what it gives back, or refused with number and place only
 pub data Answer (A : Type 0) : Type 0 where
   taken : A → Answer A

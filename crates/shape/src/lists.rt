@@ -3,14 +3,16 @@
 // proof about indices; the checks of lists stand here alone.
 ghost use mathlib.Core.Path.{_≡_};
 ghost use mathlib.Core.Bool.{_||_, not};
-ghost use Prim.Native.Nat.{_+_, _-_, _*_, _%_, _^_, _≤_, _<_, min};
+ghost use Prim.Native.Nat.{_+_, _-_, _*_, _/_, _%_, _^_, _≤_, _<_, min};
 ghost use lib.Dec.{ltb, eqb};
 ghost use lib.ListN.{length, getD, take, drop};
 ghost use Rattle.shape.specs.Gather.{any};
 ghost use Rattle.shape.specs.Refusal.{found};
-ghost use Rattle.shape.specs.Lists.{longer, uneven, wordOf, lastEnd, runBad, runLong, pointAt, vectorAt, meshFault, meshLists};
+ghost use Rattle.shape.specs.Lists.{longer, uneven, wordOf, lastEnd, runBad, runLong, pointAt, vectorAt, meshLists, meshLimits, meshRagged, meshFault};
 use crate::refusal::Check;
-use crate::refusal::Refusal;
+use crate::refusal::oversize_if;
+use crate::refusal::ragged_if;
+use rounding::bits::wide;
 use vector::coords::Point;
 use vector::coords::Vector;
 
@@ -194,37 +196,79 @@ pub(crate) fn any_long(ws: &[u32], width: usize, a: usize, limit: usize, m: usiz
 
 // ---- meshes
 
-// Why the four lists of a mesh are turned back, if they are. Every call that takes a mesh asks this.
-pub fn mesh_fault(vertices: &[f32], normals: &[f32], indices: &[u32], spans: &[u32]) -> Check
-    ensures { λ r. ⌜ found r ≡ meshFault (meshLists (now (vertices .entry)) (now (normals .entry)) (now (indices .entry)) (now (spans .entry))) ⌝ }
+// Do the runs of the spans rise, each start from the last end and each end from its start, and do they
+// keep within n vertices and k indices? The single lookup asks this at every point, so in one pass that
+// is left where it fails.
+fn runs_rise(spans: &[u32], n: usize, k: usize) -> bool
+    ensures { λ r. let ss = now (spans .entry) in let m = length ss / 5 in ⌜ r ≡ not (any (runBad 5 1 ss n) m || any (runBad 5 3 ss k) m) ⌝ }
 {
-    if 3 * 65536 < vertices.len() {
-        return Check::Faulty(Refusal::Oversize(65536));
-    }
-    if 3 * 65536 < normals.len() {
-        return Check::Faulty(Refusal::Oversize(65536));
-    }
-    if 196608 < indices.len() {
-        return Check::Faulty(Refusal::Oversize(196608));
-    }
-    if 5 * 1024 < spans.len() {
-        return Check::Faulty(Refusal::Oversize(1024));
-    }
-    if vertices.len() % 3 != 0 {
-        return Check::Faulty(Refusal::Ragged(0));
-    }
-    if normals.len() % 3 != 0 {
-        return Check::Faulty(Refusal::Ragged(1));
-    }
-    if spans.len() % 5 != 0 {
-        return Check::Faulty(Refusal::Ragged(3));
-    }
     let m = spans.len() / 5;
-    if any_bad(spans, 5, 1, vertices.len() / 3, m) {
-        return Check::Faulty(Refusal::Ragged(3));
+    let mut vertex: usize = 0;
+    let mut index: usize = 0;
+    let mut i: usize = 0;
+    while i < m {
+        let at = 5 * i;
+        let a = wide(spans[at + 1]);
+        let b = wide(spans[at + 2]);
+        let c = wide(spans[at + 3]);
+        let d = wide(spans[at + 4]);
+        if a < vertex {
+            return false;
+        }
+        if b < a {
+            return false;
+        }
+        if c < index {
+            return false;
+        }
+        if d < c {
+            return false;
+        }
+        vertex = b;
+        index = d;
+        i += 1;
     }
-    if any_bad(spans, 5, 3, indices.len(), m) {
-        return Check::Faulty(Refusal::Ragged(3));
+    if n < vertex {
+        return false;
     }
-    Check::Fine
+    index <= k
+}
+
+// Which list of a mesh is past its limit, if any is.
+pub fn mesh_limits(vertices: &[f32], normals: &[f32], indices: &[u32], spans: &[u32]) -> Check
+    ensures { λ r. let m = meshLists (now (vertices .entry)) (now (normals .entry)) (now (indices .entry)) (now (spans .entry)) in ⌜ found r ≡ meshLimits m ⌝ }
+{
+    let after = oversize_if(5 * 1024 < spans.len(), 1024, Check::Fine);
+    let after = oversize_if(196608 < indices.len(), 196608, after);
+    let after = oversize_if(3 * 65536 < normals.len(), 65536, after);
+    oversize_if(3 * 65536 < vertices.len(), 65536, after)
+}
+
+// Which list of a mesh is ragged, if any is, where the mesh's lists stand in the call from `first` on.
+pub fn mesh_ragged(
+    first: u32,
+    vertices: &[f32],
+    normals: &[f32],
+    indices: &[u32],
+    spans: &[u32],
+) -> Check
+    ensures { λ r. let m = meshLists (now (vertices .entry)) (now (normals .entry)) (now (indices .entry)) (now (spans .entry)) in ⌜ found r ≡ meshRagged first m ⌝ }
+{
+    let p = wide(first);
+    let rise = runs_rise(spans, vertices.len() / 3, indices.len());
+    let after = ragged_if(!rise, p + 3, Check::Fine);
+    let after = ragged_if(spans.len() % 5 != 0, p + 3, after);
+    let after = ragged_if(normals.len() % 3 != 0, p + 1, after);
+    ragged_if(vertices.len() % 3 != 0, p, after)
+}
+
+// Why the four lists of a mesh are turned back, if they are. Every call that takes a mesh asks this; a list
+// past its limit is not read through.
+pub fn mesh_fault(vertices: &[f32], normals: &[f32], indices: &[u32], spans: &[u32]) -> Check
+    ensures { λ r. let m = meshLists (now (vertices .entry)) (now (normals .entry)) (now (indices .entry)) (now (spans .entry)) in ⌜ found r ≡ meshFault m ⌝ }
+{
+    match mesh_limits(vertices, normals, indices, spans) {
+        Check::Faulty(r) => Check::Faulty(r),
+        Check::Fine => mesh_ragged(0, vertices, normals, indices, spans),
+    }
 }

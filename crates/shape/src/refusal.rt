@@ -1,4 +1,7 @@
 // Why a call is turned back: a case for each word of document 01's table, with the place that it names.
+ghost use mathlib.Core.Path.{_≡_};
+ghost use Rattle.shape.specs.Refusal.{numberOf, placeOf, found, refuse, orElse};
+
 pub enum Refusal {
     // The limit that a list or a result is past.
     Oversize(usize),
@@ -16,4 +19,73 @@ pub enum Refusal {
 pub enum Check {
     Fine,
     Faulty(Refusal),
+}
+
+// The refusal's number in document 01's table.
+pub fn number(r: Refusal) -> u32
+    ensures { λ n. ⌜ n ≡ numberOf r ⌝ }
+{
+    match r {
+        Refusal::Oversize(limit) => 1,
+        Refusal::Ragged(list) => 2,
+        Refusal::ShortOutput(wanted) => 3,
+        Refusal::ForeignIndex(word) => 4,
+        Refusal::BadRecord(record) => 5,
+    }
+}
+
+// The place that it names.
+pub fn place(r: Refusal) -> usize
+    ensures { λ n. ⌜ n ≡ placeOf r ⌝ }
+{
+    match r {
+        Refusal::Oversize(limit) => limit,
+        Refusal::Ragged(list) => list,
+        Refusal::ShortOutput(wanted) => wanted,
+        Refusal::ForeignIndex(word) => word,
+        Refusal::BadRecord(record) => record,
+    }
+}
+
+// ---- faults in a chain: each call puts one test before what comes after it, so that a check reads as its
+// definition does
+
+// A list or a result past its limit.
+pub fn oversize_if(bad: bool, limit: usize, after: Check) -> Check
+    ensures { λ r. ⌜ found r ≡ refuse bad 1 limit (found after) ⌝ }
+{
+    if bad {
+        return Check::Faulty(Refusal::Oversize(limit));
+    }
+    after
+}
+
+// A list that is not in order, by its position in the call.
+pub fn ragged_if(bad: bool, list: usize, after: Check) -> Check
+    ensures { λ r. ⌜ found r ≡ refuse bad 2 list (found after) ⌝ }
+{
+    if bad {
+        return Check::Faulty(Refusal::Ragged(list));
+    }
+    after
+}
+
+// An output with less room than is wanted.
+pub fn short_if(bad: bool, wanted: usize, after: Check) -> Check
+    ensures { λ r. ⌜ found r ≡ refuse bad 3 wanted (found after) ⌝ }
+{
+    if bad {
+        return Check::Faulty(Refusal::ShortOutput(wanted));
+    }
+    after
+}
+
+// The first of two faults.
+pub fn or_else(first: Check, after: Check) -> Check
+    ensures { λ r. ⌜ found r ≡ orElse (found first) (found after) ⌝ }
+{
+    match first {
+        Check::Fine => after,
+        Check::Faulty(r) => Check::Faulty(r),
+    }
 }

@@ -26,7 +26,7 @@ use Rattle.lookup.specs.Index.{indexWords, buildOf, roomFault, answerTo,
 use Rattle.lookup.specs.Consult.{Place, runIn, consultOf}
 use Rattle.lookup.specs.Sampler.{Sample, hit, miss, detailOf, lookupIn, sampleOf, sampleIn, onward, topFault, topOf}
 use Rattle.lookup.specs.Demand3.{BuiltFrom, NamesLane, InWords, InBuilt, Demand3}
-use Rattle.lookup.specs.Laws.Heads.{passed}
+use Rattle.shape.specs.Laws.Refusal.{passed}
 use Rattle.lookup.specs.Laws.Plain.{bestOf, covers-below, answer-right, answer-none, plain-winner, run-winner}
 use Rattle.lookup.specs.Laws.Scan.{scan-found}
 use Rattle.lookup.specs.Laws.Lanes.{strip-of, strip-lane}

@@ -9,9 +9,10 @@ use lib.Dec.{ltb, leb, eqb}
 use lib.Ieee.{Float}
 use lib.ListN.{length}
 use borrow.Author.Tests.{ltb-false, ne-eqb, eqb-false}
-use Rattle.shape.specs.Refusal.{Fault, fine, fault, refuse, Answer, taken, refused, judge}
-use Rattle.lookup.specs.Consult.{wordAt, sides, declares, headFault, inside, cellAt, startAt, firstAt, orElse, entryFault, startFault, nowhere, runOf, consultOf}
-use Rattle.lookup.specs.Laws.Heads.{passed, head-sided, cell-small}
+use Rattle.shape.specs.Refusal.{Fault, fine, fault, refuse, orElse, Answer, taken, refused, judge}
+use Rattle.lookup.specs.Consult.{wordAt, sides, declares, headFault, inside, cellAt, startAt, firstAt, entryFault, startFault, nowhere, runOf, consultOf}
+use Rattle.shape.specs.Laws.Refusal.{passed}
+use Rattle.lookup.specs.Laws.Heads.{head-sided, cell-small}
 
 pub never : {A : Type 0} {a : A} {k p : ℕ} → taken a ≡ refused k p → ⊥
 never e = let z : _≡_ {A = ℕ} 0 1 = cc in omega arith
@@ -39,21 +40,21 @@ module _ (ws : List ℕ) where
 -- ---- P holds of the number and place of a fault, or of a refusal, if it is one
 
 module _ (P : ℕ → ℕ → Type 0) where
-  abbrev Holds : Fault → Type 0
+  abbrev pub Holds : Fault → Type 0
   Holds f = (k p : ℕ) → f ≡ fault k p → P k p
 
   abbrev HoldsIn : {A : Type 0} → Answer A → Type 0
   HoldsIn a = (k p : ℕ) → a ≡ refused k p → P k p
 
-  holds-fine : Holds fine
+  pub holds-fine : Holds fine
   holds-fine k p e = absurd (let z : _≡_ {A = ℕ} 0 1 = cc in omega arith)
 
-  holds-refuse : (b : Bool) (k p : ℕ) (f : Fault) → P k p → Holds f → Holds (refuse b k p f)
+  pub holds-refuse : (b : Bool) (k p : ℕ) (f : Fault) → P k p → Holds f → Holds (refuse b k p f)
   unfolding refuse
   holds-refuse true k p f h g i q e = let y : k ≡ i = cc in let z : p ≡ q = cc in rw (← y, ← z) h
   holds-refuse false k p f h g i q e = g i q e
 
-  holds-else : (f g : Fault) → Holds f → (f ≡ fine → Holds g) → Holds (orElse f g)
+  pub holds-else : (f g : Fault) → Holds f → (f ≡ fine → Holds g) → Holds (orElse f g)
   unfolding orElse
   holds-else fine g h k = k refl
   holds-else (fault i p) g h k = h

@@ -13,16 +13,12 @@ use lib.Arith.{digits-lt}
 use lib.Ieee.{Float, binary32, le}
 use Rattle.lookup.specs.Column.{col}
 use Rattle.lookup.specs.Laws.Column.{col-lt}
-use Rattle.shape.specs.Refusal.{Fault, fine, fault, refuse, Answer, taken, refused}
-use Rattle.lookup.specs.Consult.{wordAt, floatAt, sides, declares, headFault, inside, cellAt, orElse, entryFault, startAt, firstAt, startFault, Place, nowhere, run, runOf, consultOf}
+use Rattle.shape.specs.Refusal.{Fault, fine, fault, refuse, orElse, Answer, taken, refused}
+use Rattle.shape.specs.Laws.Refusal.{passed}
+use Rattle.lookup.specs.Consult.{wordAt, floatAt, sides, declares, headFault, inside, cellAt, entryFault, startAt, firstAt, startFault, Place, nowhere, run, runOf, consultOf}
 use Rattle.lookup.specs.Steps.{Sided, spotOf}
 use Rattle.lookup.specs.declared.consult.Spot.the-variants.{Cell, Outside}
 use Rattle.lookup.specs.Laws.Parts.{both}
-
--- a test that lets a call through
-pub passed : (b : Bool) (n p : ℕ) (a : Fault) → cond b (fault n p) a ≡ fine → (b ≡ false) × (a ≡ fine)
-passed true n p a e = absurd (let z : _≡_ {A = ℕ} 0 1 = cc in omega arith)
-passed false n p a e = (refl, e)
 
 -- ---- the sides
 

@@ -1,17 +1,17 @@
--- The refusals of the indexed lookup's input beside those of its mesh: the index's limit comes between the mesh's limits and what is ragged.
--- Assumes nothing.
-use Prim.Native.Nat.{ℕ, _/_, _≤_, _<_}
-use mathlib.Core.Path.{_≡_, refl, sym, ap, _∙_}
-use mathlib.Core.Bool.{Bool, true, false}
+-- What it means that the indexed lookup's input is in order, and the refusals that it may have. Assumes nothing.
+use Prim.Native.Nat.{ℕ, _+_, _/_, _≤_}
+use mathlib.Core.Path.{_≡_, refl}
+use mathlib.Core.Bool.{Bool, false}
 use mathlib.Core.List.{List}
 use native.Mathlib.Omega.{arith}
 use lib.ListN.{length}
-use borrow.Author.Tests.{lt-ltb, le-ltb, ltb-false}
+use borrow.Author.Tests.{le-ltb, ltb-false}
 use Rattle.shape.specs.Gather.{any}
-use Rattle.shape.specs.Lists.{Mesh, longer, uneven, runBad, meshFault}
-use Rattle.shape.specs.Refusal.{Fault, fine, fault, refuse, Answer, taken, judge}
-use Rattle.lookup.specs.Sampler.{EndsRise, meshLimits, meshRagged, topFault}
-use Rattle.lookup.specs.Laws.Heads.{passed}
+use Rattle.shape.specs.Lists.{Mesh, longer, uneven, runBad, meshLimits, meshRagged, meshFault}
+use Rattle.shape.specs.Refusal.{Fault, fine, fault, refuse, orElse, Answer, taken, judge}
+use Rattle.shape.specs.Laws.Refusal.{passed, else-passed}
+use Rattle.lookup.specs.Sampler.{EndsRise, topFault}
+use Rattle.lookup.specs.Laws.Faults.{Holds, holds-fine, holds-refuse, holds-else}
 use Rattle.lookup.specs.Laws.Spans.{ends-rise}
 
 -- an answer that was taken: nothing was at fault
@@ -20,132 +20,62 @@ unfolding judge
 judged fine a s e = (refl, e)
 judged (fault number place) a s e = let z : _≡_ {A = ℕ} 0 1 = cc in absurd (omega arith)
 
--- the four limits of a mesh
-abbrev four : Bool → Bool → Bool → Bool → Fault → Fault
-four a b c d after = refuse a 1 65536 (refuse b 1 65536 (refuse c 1 196608 (refuse d 1 1024 after)))
+-- what holds of 1 and of 2 with every place holds of each fault of the input
 
--- a fault is not of a number that it does not have
-abbrev Not : ℕ → Fault → Type 0
-Not n f = (p : ℕ) → f ≡ fault n p → ⊥
+module _ (P : ℕ → ℕ → Type 0) (over : (p : ℕ) → P 1 p) (ragged : (p : ℕ) → P 2 p) where
+  limits-hold : (m : Mesh) → Holds P (meshLimits m)
+  unfolding meshLimits
+  limits-hold m =
+      holds-refuse P (longer 3 65536 (m .vertices)) 1 65536 _ (over _)
+      (holds-refuse P (longer 3 65536 (m .normals)) 1 65536 _ (over _)
+      (holds-refuse P (longer 1 196608 (m .indices)) 1 196608 _ (over _)
+      (holds-refuse P (longer 5 1024 (m .spans)) 1 1024 fine (over _) (holds-fine P))))
 
-fine-not : (n : ℕ) → Not n fine
-fine-not n p e = let z : _≡_ {A = ℕ} 0 1 = cc in omega arith
+  ragged-hold : (p : ℕ) (m : Mesh) → Holds P (meshRagged p m)
+  unfolding meshRagged
+  ragged-hold p m =
+      holds-refuse P (uneven 3 (m .vertices)) 2 p _ (ragged _)
+      (holds-refuse P (uneven 3 (m .normals)) 2 (p + 1) _ (ragged _)
+      (holds-refuse P (uneven 5 (m .spans)) 2 (p + 3) _ (ragged _)
+      (holds-refuse P (any (runBad 5 1 (m .spans) (length (m .vertices) / 3)) (length (m .spans) / 5)) 2 (p + 3) _ (ragged _)
+      (holds-refuse P (any (runBad 5 3 (m .spans) (length (m .indices))) (length (m .spans) / 5)) 2 (p + 3) fine (ragged _) (holds-fine P)))))
 
-fault-not : (n k q : ℕ) → (k ≡ n → ⊥) → Not n (fault k q)
-fault-not n k q h p e = let z : k ≡ n = cc in h z
-
-step-not : (n k q : ℕ) → (k ≡ n → ⊥) → (b : Bool) (f : Fault) → Not n f → Not n (refuse b k q f)
-unfolding refuse
-step-not n k q h true f g = fault-not n k q h
-step-not n k q h false f g = g
-
-ragged-not : (n : ℕ) → (2 ≡ n → ⊥) → (m : Mesh) → Not n (meshRagged m)
-unfolding meshRagged
-ragged-not n h m =
-    step-not n 2 0 h (uneven 3 (m .vertices)) _
-    (step-not n 2 1 h (uneven 3 (m .normals)) _
-    (step-not n 2 3 h (uneven 5 (m .spans)) _
-    (step-not n 2 3 h (any (runBad 5 1 (m .spans) (length (m .vertices) / 3)) (length (m .spans) / 5)) _
-    (step-not n 2 3 h (any (runBad 5 3 (m .spans) (length (m .indices))) (length (m .spans) / 5)) fine (fine-not n)))))
-
-limits-not : (n : ℕ) → (1 ≡ n → ⊥) → (m : Mesh) (f : Fault) → Not n f → Not n (meshLimits m f)
-unfolding meshLimits
-limits-not n h m f g =
-    step-not n 1 65536 h (longer 3 65536 (m .vertices)) _
-    (step-not n 1 65536 h (longer 3 65536 (m .normals)) _
-    (step-not n 1 196608 h (longer 1 196608 (m .indices)) _
-    (step-not n 1 1024 h (longer 5 1024 (m .spans)) f g)))
+  input-holds : (m : Mesh) (ws : List ℕ) → Holds P (topFault m ws)
+  unfolding topFault
+  input-holds m ws =
+      holds-else P (meshLimits m) _ (limits-hold m)
+      (λ e. holds-else P (refuse (longer 1 4194304 ws) 1 4194304 fine) _ (holds-refuse P (longer 1 4194304 ws) 1 4194304 fine (over _) (holds-fine P))
+      (λ f. ragged-hold 0 m))
 
 -- only consulting the index tells that it is foreign
 pub input-not-foreign : (m : Mesh) (ws : List ℕ) (p : ℕ) → topFault m ws ≡ fault 4 p → ⊥
-unfolding topFault
-input-not-foreign m ws =
-    limits-not 4 (λ z. omega arith) m (refuse (longer 1 4194304 ws) 1 4194304 (meshRagged m))
-    (step-not 4 1 4194304 (λ z. omega arith) (longer 1 4194304 ws) (meshRagged m) (ragged-not 4 (λ z. omega arith) m))
+input-not-foreign m ws p e = input-holds (λ k q. k ≡ 4 → ⊥) (λ q z. omega arith) (λ q z. omega arith) m ws 4 p e refl
 
--- ---- beside the mesh's
-
-pub mesh-split : (m : Mesh) → meshFault m ≡ meshLimits m (meshRagged m)
-unfolding meshFault meshLimits meshRagged
-mesh-split m = refl
-
--- what comes first, whatever comes after
-first : (a b c d : Bool) (f g : Fault) → Not 1 f → (n : ℕ) → four a b c d f ≡ fault 1 n → four a b c d g ≡ fault 1 n
-unfolding refuse
-first true b c d f g h n e = e
-first false true c d f g h n e = e
-first false false true d f g h n e = e
-first false false false true f g h n e = e
-first false false false false f g h n e = absurd (h n e)
-
-later : (a b c d : Bool) (f g : Fault) → Not 1 (four a b c d f) → four a b c d g ≡ g
-unfolding refuse
-later true b c d f g h = absurd (h 65536 refl)
-later false true c d f g h = absurd (h 65536 refl)
-later false false true d f g h = absurd (h 196608 refl)
-later false false false true f g h = absurd (h 1024 refl)
-later false false false false f g h = refl
-
-module _ (m : Mesh) (ws : List ℕ) where
-  pub short-index : length ws ≤ 4194304 → topFault m ws ≡ meshFault m
-  unfolding topFault longer
-  short-index l = ap (meshLimits m) (short (longer 1 4194304 ws) (le-ltb 4194304 (length ws) l)) ∙ sym (mesh-split m)
-    where
-      short : (b : Bool) → b ≡ false → refuse b 1 4194304 (meshRagged m) ≡ meshRagged m
-      short b e = rw e
-
-  long-is : 4194304 < length ws → topFault m ws ≡ meshLimits m (fault 1 4194304)
-  unfolding topFault longer refuse
-  long-is l = ap (meshLimits m) (long (longer 1 4194304 ws) (lt-ltb 4194304 (length ws) l))
-    where
-      long : (b : Bool) → b ≡ true → refuse b 1 4194304 (meshRagged m) ≡ fault 1 4194304
-      long b e = rw e
-
-  pub long-first : 4194304 < length ws → (n : ℕ) → meshFault m ≡ fault 1 n → fault 1 n ≡ topFault m ws
-  unfolding meshLimits
-  long-first l n e =
-      sym (long-is l
-      ∙ first (longer 3 65536 (m .vertices)) (longer 3 65536 (m .normals)) (longer 1 196608 (m .indices)) (longer 5 1024 (m .spans)) (meshRagged m) (fault 1 4194304)
-      (ragged-not 1 (λ z. omega arith) m) n (sym (mesh-split m) ∙ e))
-
-  pub long-later : 4194304 < length ws → Not 1 (meshFault m) → fault 1 4194304 ≡ topFault m ws
-  unfolding meshLimits
-  long-later l h =
-      sym (long-is l
-      ∙ later (longer 3 65536 (m .vertices)) (longer 3 65536 (m .normals)) (longer 1 196608 (m .indices)) (longer 5 1024 (m .spans)) (meshRagged m) (fault 1 4194304)
-      (λ n e. h n (mesh-split m ∙ e)))
+-- an index within its limit changes nothing
+pub short-index : (m : Mesh) (ws : List ℕ) → length ws ≤ 4194304 → topFault m ws ≡ meshFault m
+unfolding topFault meshFault longer refuse orElse
+short-index m ws l = go (longer 1 4194304 ws) (le-ltb 4194304 (length ws) l)
+  where
+    go : (b : Bool) → b ≡ false → orElse (meshLimits m) (orElse (refuse b 1 4194304 fine) (meshRagged 0 m)) ≡ orElse (meshLimits m) (meshRagged 0 m)
+    go b e = rw e
 
 -- ---- where the input is in order
 
-never : {n p : ℕ} → fault n p ≡ fine → ⊥
-never e = let z : _≡_ {A = ℕ} 0 1 = cc in omega arith
-
-without : (a b c d e : Bool) (f : Fault) → four a b c d (refuse e 1 4194304 f) ≡ fine → four a b c d f ≡ fine
-unfolding refuse
-without true b c d e f h = absurd (never h)
-without false true c d e f h = absurd (never h)
-without false false true d e f h = absurd (never h)
-without false false false true e f h = absurd (never h)
-without false false false false true f h = absurd (never h)
-without false false false false false f h = h
-
 -- so is the mesh
 pub mesh-in-order : (m : Mesh) (ws : List ℕ) → topFault m ws ≡ fine → meshFault m ≡ fine
-unfolding topFault meshLimits
+unfolding topFault meshFault orElse
 mesh-in-order m ws e =
-    mesh-split m
-    ∙ without (longer 3 65536 (m .vertices)) (longer 3 65536 (m .normals)) (longer 1 196608 (m .indices)) (longer 5 1024 (m .spans)) (longer 1 4194304 ws) (meshRagged m) e
+    let p = else-passed (meshLimits m) _ e in
+    let q = else-passed (refuse (longer 1 4194304 ws) 1 4194304 fine) (meshRagged 0 m) (p .1) in
+    rw (p .0) (q .1)
 
 -- and the index is within its limit
 pub index-in-order : (m : Mesh) (ws : List ℕ) → topFault m ws ≡ fine → length ws ≤ 4194304
-unfolding topFault meshLimits longer refuse
+unfolding topFault longer
 index-in-order m ws e =
-    let p = passed (longer 3 65536 (m .vertices)) _ _ _ e in
-    let q = passed (longer 3 65536 (m .normals)) _ _ _ (p .1) in
-    let r = passed (longer 1 196608 (m .indices)) _ _ _ (q .1) in
-    let s = passed (longer 5 1024 (m .spans)) _ _ _ (r .1) in
-    let t = passed (longer 1 4194304 ws) _ _ _ (s .1) in
-    ltb-false 4194304 (length ws) (t .0)
+    let p = else-passed (meshLimits m) _ e in
+    let q = else-passed (refuse (longer 1 4194304 ws) 1 4194304 fine) (meshRagged 0 m) (p .1) in
+    ltb-false 4194304 (length ws) (passed (longer 1 4194304 ws) 1 4194304 fine (q .0) .0)
 
 -- its lists are within the limits, and no span's run of indices ends before the last one's
 pub record InOrder (m : Mesh) : Type 0 where
@@ -154,19 +84,20 @@ pub record InOrder (m : Mesh) : Type 0 where
   pub ends : EndsRise (m .spans) (length (m .spans) / 5)
 
 pub in-order : (m : Mesh) → meshFault m ≡ fine → InOrder m
-unfolding meshFault longer
+unfolding meshFault meshLimits meshRagged longer
 in-order m e =
-    let p = passed (longer 3 65536 (m .vertices)) _ _ _ e in
-    let q = passed (longer 3 65536 (m .normals)) _ _ _ (p .1) in
-    let r = passed (longer 1 196608 (m .indices)) _ _ _ (q .1) in
-    let s = passed (longer 5 1024 (m .spans)) _ _ _ (r .1) in
-    let t = passed (uneven 3 (m .vertices)) _ _ _ (s .1) in
-    let u = passed (uneven 3 (m .normals)) _ _ _ (t .1) in
-    let v = passed (uneven 5 (m .spans)) _ _ _ (u .1) in
-    let w = passed (any (runBad 5 1 (m .spans) (length (m .vertices) / 3)) (length (m .spans) / 5)) _ _ _ (v .1) in
-    let z = passed (any (runBad 5 3 (m .spans) (length (m .indices))) (length (m .spans) / 5)) _ _ _ (w .1) in
+    let limits = else-passed (meshLimits m) (meshRagged 0 m) e in
+    let normals = passed (longer 3 65536 (m .vertices)) 1 65536 _ (limits .0) .1 in
+    let indices = passed (longer 3 65536 (m .normals)) 1 65536 _ normals .1 in
+    let long = passed (longer 1 196608 (m .indices)) 1 196608 _ indices in
+    let many = passed (longer 5 1024 (m .spans)) 1 1024 _ (long .1) in
+    let threes = passed (uneven 3 (m .vertices)) 2 0 _ (limits .1) .1 in
+    let fives = passed (uneven 3 (m .normals)) 2 1 _ threes .1 in
+    let vertex-runs = passed (uneven 5 (m .spans)) 2 3 _ fives .1 in
+    let index-runs = passed (any (runBad 5 1 (m .spans) (length (m .vertices) / 3)) (length (m .spans) / 5)) 2 3 _ vertex-runs .1 in
+    let within = passed (any (runBad 5 3 (m .spans) (length (m .indices))) (length (m .spans) / 5)) 2 3 _ index-runs in
     record {
-      indices = ltb-false 196608 (length (m .indices)) (r .0);
-      spans = ltb-false 5120 (length (m .spans)) (s .0);
-      ends = ends-rise (m .spans) (length (m .indices)) (length (m .spans) / 5) (z .0);
+      indices = ltb-false 196608 (length (m .indices)) (long .0);
+      spans = ltb-false 5120 (length (m .spans)) (many .0);
+      ends = ends-rise (m .spans) (length (m .indices)) (length (m .spans) / 5) (within .0);
     }

@@ -1,8 +1,8 @@
--- What sound runs are, and the part of a list that a run is. Assumes nothing.
+-- What sound runs are, the part of a list that a run is, and a mesh's faults as one chain. Assumes nothing.
 use mathlib.Core.Path.{_≡_, refl, sym, _∙_}
 use mathlib.Core.Bool.{false, _||_}
 use mathlib.Core.List.{List, [], _∷_}
-use Prim.Native.Nat.{ℕ, zero, suc, _+_, _-_, _*_, _≤_, _<_, min}
+use Prim.Native.Nat.{ℕ, zero, suc, _+_, _-_, _*_, _/_, _≤_, _<_, min}
 use native.Mathlib.Decide.{decLt}
 use native.Mathlib.Numerals.{sub-one}
 use native.Mathlib.Omega.{arith}
@@ -11,8 +11,10 @@ use lib.Dec.{ltb}
 use lib.ListN.{length, getD, take, drop, length-drop, drop-of-length-le, List·getD-eq-default}
 use lib.Seq.{take-nil, take-all}
 use Rattle.shape.specs.Gather.{any}
-use Rattle.shape.specs.Lists.{wordOf, startOf, endOf, lastEnd, runBad, runLong}
+use Rattle.shape.specs.Lists.{wordOf, startOf, endOf, lastEnd, runBad, runLong, Mesh, longer, uneven, meshLimits, meshRagged, meshFault}
+use Rattle.shape.specs.Refusal.{fine, refuse, orElse}
 use Rattle.shape.specs.Laws.Gather.{or-left, or-right, any-none}
+use Rattle.shape.specs.Laws.Refusal.{else-refuse}
 
 -- run k of a list of n: it is in order, after the last one, and within its list
 pub record Sound (w a : ℕ) (ws : List ℕ) (n k : ℕ) : Type 0 where
@@ -96,3 +98,18 @@ pub getD-any {ℓ} : {A : Type ℓ} (l : List A) (i : ℕ) (d e : A) → i < len
 getD-any [] i d e h = absurd (omega arith)
 getD-any (x ∷ xs) zero d e h = refl
 getD-any (x ∷ xs) (suc i) d e h = getD-any xs i d e (omega arith)
+
+-- a mesh's faults, each before the next
+pub mesh-fault-chain : (m : Mesh)
+    → meshFault m
+    ≡ refuse (longer 3 65536 (m .vertices)) 1 65536
+    (refuse (longer 3 65536 (m .normals)) 1 65536
+    (refuse (longer 1 196608 (m .indices)) 1 196608
+    (refuse (longer 5 1024 (m .spans)) 1 1024
+    (refuse (uneven 3 (m .vertices)) 2 0
+    (refuse (uneven 3 (m .normals)) 2 1
+    (refuse (uneven 5 (m .spans)) 2 3
+    (refuse (any (runBad 5 1 (m .spans) (length (m .vertices) / 3)) (length (m .spans) / 5)) 2 3
+    (refuse (any (runBad 5 3 (m .spans) (length (m .indices))) (length (m .spans) / 5)) 2 3 fine))))))))
+unfolding meshFault meshLimits meshRagged orElse
+mesh-fault-chain m = rw (else-refuse, else-refuse, else-refuse, else-refuse)

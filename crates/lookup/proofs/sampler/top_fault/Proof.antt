@@ -1,84 +1,64 @@
--- `lookup::sampler::top_fault` meets its contract: an index past its limit comes after a mesh past its limits, and before all else. Assumes nothing.
-use Prim.Native.Nat.{ℕ, _<_}
-use mathlib.Core.Path.{_≡_, sym, ap, _∙_}
-use mathlib.Core.Bool.{true, false}
+-- `lookup::sampler::top_fault` meets its contract: the limits tell, the index's the last of them, or else what is ragged. Assumes nothing.
+use Prim.Native.Nat.{ℕ}
 use mathlib.Core.List.{List}
-use native.Mathlib.Omega.{arith}
-use lib.Dec.{eqb}
-use lib.ListN.{length}
-use borrow.Author.Tests.{eqb-true, eqb-false}
-use Rattle.shape.specs.declared.refusal.Refusal.{Refusal}
-use Rattle.shape.specs.declared.refusal.Refusal.the-variants.{Oversize}
-use Rattle.shape.specs.declared.refusal.Check.{Check}
-use Rattle.shape.specs.declared.refusal.Check.the-variants.{Fine, Faulty}
-use Rattle.shape.specs.Refusal.{fine, fault, found, numberOf, placeOf}
-use Rattle.shape.specs.Lists.{Mesh, meshLists, meshFault}
+use mathlib.Core.Path.{_≡_, _∙_}
+use Rattle.shape.specs.Refusal.{fine, found, refuse, orElse}
+use Rattle.shape.specs.Lists.{Mesh, meshLists, longer, meshLimits, meshRagged}
+use Rattle.shape.specs.Laws.Refusal.{else-assoc, else-faulty, else-fine}
 use Rattle.lookup.specs.Sampler.{topFault}
-use Rattle.lookup.specs.Laws.Limits.{short-index, long-first, long-later}
-use Rattle.lookup.proofs.Chain.{sound, faulty}
 use borrow.Author.Needs.{needs}
 use Rattle.lookup.proofs.sampler.top_fault.Statement.{statement}
 use Rattle.lookup.proofs.sampler.top_fault.Tie as tie
-
-module _ (m : Mesh) (ws : List ℕ) {k : Check} (e : found k ≡ meshFault m) (l : 4194304 < length ws) where
-  first : {r : Refusal} → k ≡ Faulty r → eqb (numberOf r) 1 ≡ true → found (Faulty r) ≡ topFault m ws
-  unfolding found
-  first {r} f b =
-      let n : numberOf r ≡ 1 = eqb-true (numberOf r) 1 b in
-      let t = faulty f e in
-      rw n (long-first m ws l (placeOf r) (t ∙ ap (λ (a : ℕ). fault a (placeOf r)) n))
-
-  other : {r : Refusal} → k ≡ Faulty r → eqb (numberOf r) 1 ≡ false → found (Faulty (Oversize 4194304)) ≡ topFault m ws
-  unfolding found numberOf placeOf
-  other {r} f b = long-later m ws l (λ p h. eqb-false (numberOf r) 1 b (number (sym (faulty f e) ∙ h)))
-    where
-      number : {a b c d : ℕ} → fault a b ≡ fault c d → a ≡ c
-      number q = cc
-
-  none : k ≡ Fine → found (Faulty (Oversize 4194304)) ≡ topFault m ws
-  unfolding found numberOf placeOf
-  none f = long-later m ws l (λ p h. differ (sym (sound f e) ∙ h))
-    where
-      differ : {a b : ℕ} → fine ≡ fault a b → ⊥
-      differ q = let z : _≡_ {A = ℕ} 0 1 = cc in omega arith
 
 -- the mesh
 abbrev M : tie.Start → Mesh
 M s = meshLists (s .args .vertices .now) (s .args .normals .now) (s .args .indices .now) (s .args .spans .now)
 
-mesh-check-requires : tie.Need-mesh-check-requires
-mesh-check-requires c κs = search needs
+abbrev S : tie.After-or-else → tie.Start
+S c = c .before .before .before .before .before .before .before .before
 
-returns : tie.Need-returns
-returns c = c .before .mesh-check .ensures ∙ sym (short-index (M (c .before .before .before .before .before .before .before)) (c .before .before .before .before .before .before .before .args .index .now) (c .if1 .taken))
+limits : (c : tie.After-or-else) → found (c .or-else .result) ≡ orElse (meshLimits (M (S c))) (refuse (longer 1 4194304 (S c .args .index .now)) 1 4194304 fine)
+unfolding longer found
+limits c = rw (c .or-else .ensures, c .before .oversize-if .ensures, c .before .before .mesh-limits .ensures)
 
-enum-known-check : tie.Need-enum-known-check
-enum-known-check c = search needs
+-- all limits before what is ragged
+split : (m : Mesh) (ws : List ℕ) → orElse (orElse (meshLimits m) (refuse (longer 1 4194304 ws) 1 4194304 fine)) (meshRagged 0 m) ≡ topFault m ws
+unfolding topFault
+split m ws = else-assoc (meshLimits m) (refuse (longer 1 4194304 ws) 1 4194304 fine) (meshRagged 0 m)
 
-oversize-requires : tie.Need-oversize-requires
-oversize-requires c κs = search needs
+mesh-limits-requires : tie.Need-mesh-limits-requires
+mesh-limits-requires c κs = search needs
 
-returns-2 : tie.Need-returns-2
-returns-2 c = first (M (c .before .before .before .before .before .before .before .before .before .before .before .before)) (c .before .before .before .before .before .before .before .before .before .before .before .before .args .index .now) (c .before .before .before .before .before .before .mesh-check .ensures) (c .before .before .before .before .before .if1 .left) (c .before .before .before .check .given .1) (sym (c .before .oversize .ensures) ∙ c .if2 .taken)
+oversize-if-requires : tie.Need-oversize-if-requires
+oversize-if-requires c κs = search needs
+
+or-else-requires : tie.Need-or-else-requires
+or-else-requires c κs = search needs
+
+enum-known-limits : tie.Need-enum-known-limits
+enum-known-limits c = search needs
 
 enum-told : tie.Need-enum-told
 enum-told c = search needs
 
-returns-3 : tie.Need-returns-3
-returns-3 c = other (M (c .before .before .before .before .before .before .before .before .before .before .before .before)) (c .before .before .before .before .before .before .before .before .before .before .before .before .args .index .now) (c .before .before .before .before .before .before .mesh-check .ensures) (c .before .before .before .before .before .if1 .left) (c .before .before .before .check .given .1) (sym (c .before .oversize .ensures) ∙ c .if2 .left)
+mesh-ragged-requires : tie.Need-mesh-ragged-requires
+mesh-ragged-requires c κs = search needs
 
-returns-4 : tie.Need-returns-4
-returns-4 c = none (M (c .before .before .before .before .before .before .before .before .before)) (c .before .before .before .before .before .before .before .before .before .args .index .now) (c .before .before .before .mesh-check .ensures) (c .before .before .if1 .left) (c .enum-told .given .1)
+returns : tie.Need-returns
+returns c = let k = c .before .before .before in else-faulty (meshRagged 0 (M (S k))) (limits k) (c .before .limits .given .1) ∙ split (M (S k)) (S k .args .index .now)
+
+returns-2 : tie.Need-returns-2
+returns-2 c = let k = c .before .before .before in else-fine (meshRagged 0 (M (S k))) (limits k) (c .before .enum-told .given .1) (c .mesh-ragged .ensures) ∙ split (M (S k)) (S k .args .index .now)
 
 pub top-fault-spec : {M : Type 1} → statement M
 top-fault-spec =
     tie.close
     (tie.spec
-    mesh-check-requires
-    returns
-    enum-known-check
-    oversize-requires
-    returns-2
+    mesh-limits-requires
+    oversize-if-requires
+    or-else-requires
+    enum-known-limits
     enum-told
-    returns-3
-    returns-4)
+    mesh-ragged-requires
+    returns
+    returns-2)

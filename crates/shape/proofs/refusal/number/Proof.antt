@@ -1,8 +1,8 @@
--- `lookup::sampler::oversize` meets its contract, case by case. Assumes nothing.
+-- `shape::refusal::number` meets its contract, case by case. Assumes nothing.
 use Rattle.shape.specs.Refusal.{numberOf}
 use borrow.Author.Needs.{needs}
-use Rattle.lookup.proofs.sampler.oversize.Statement.{statement}
-use Rattle.lookup.proofs.sampler.oversize.Tie as tie
+use Rattle.shape.proofs.refusal.number.Statement.{statement}
+use Rattle.shape.proofs.refusal.number.Tie as tie
 
 enum-known-r : tie.Need-enum-known-r
 enum-known-r c = search needs
@@ -39,8 +39,8 @@ returns-5 : tie.Need-returns-5
 unfolding numberOf
 returns-5 c = rw (c .before .r5 .given .1)
 
-pub oversize-spec : {M : Type 1} → statement M
-oversize-spec =
+pub number-spec : {M : Type 1} → statement M
+number-spec =
     tie.close
     (tie.spec
     enum-known-r

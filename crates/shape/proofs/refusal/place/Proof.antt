@@ -1,8 +1,8 @@
--- `lookup::sampler::number` meets its contract, case by case. Assumes nothing.
-use Rattle.shape.specs.Refusal.{numberOf}
+-- `shape::refusal::place` meets its contract, case by case. Assumes nothing.
+use Rattle.shape.specs.Refusal.{placeOf}
 use borrow.Author.Needs.{needs}
-use Rattle.lookup.proofs.sampler.number.Statement.{statement}
-use Rattle.lookup.proofs.sampler.number.Tie as tie
+use Rattle.shape.proofs.refusal.place.Statement.{statement}
+use Rattle.shape.proofs.refusal.place.Tie as tie
 
 enum-known-r : tie.Need-enum-known-r
 enum-known-r c = search needs
@@ -20,27 +20,27 @@ enum-known-r-5 : tie.Need-enum-known-r-5
 enum-known-r-5 c = search needs
 
 returns : tie.Need-returns
-unfolding numberOf
+unfolding placeOf
 returns c = rw (c .before .r .given .1)
 
 returns-2 : tie.Need-returns-2
-unfolding numberOf
+unfolding placeOf
 returns-2 c = rw (c .before .r2 .given .1)
 
 returns-3 : tie.Need-returns-3
-unfolding numberOf
+unfolding placeOf
 returns-3 c = rw (c .before .r3 .given .1)
 
 returns-4 : tie.Need-returns-4
-unfolding numberOf
+unfolding placeOf
 returns-4 c = rw (c .before .r4 .given .1)
 
 returns-5 : tie.Need-returns-5
-unfolding numberOf
+unfolding placeOf
 returns-5 c = rw (c .before .r5 .given .1)
 
-pub number-spec : {M : Type 1} → statement M
-number-spec =
+pub place-spec : {M : Type 1} → statement M
+place-spec =
     tie.close
     (tie.spec
     enum-known-r
