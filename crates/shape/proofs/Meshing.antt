@@ -9,13 +9,14 @@ use borrow.Author.Tests.{ltb-false, le-ltb}
 use lib.Ieee.{Float, lt}
 use lib.ListN.{length, take, drop, length-take, length-append}
 use Rattle.rounding.specs.Thresholds.{micro}
-use Rattle.shape.specs.declared.mesh.At.{At}
+use Rattle.shape.specs.declared.strip.At.{At}
 use Rattle.shape.specs.Gather.{gather, any}
 use Rattle.shape.specs.Memory.{Put}
 use Rattle.shape.specs.Refusal.{Fault, fine, fault, refuse, Answer, taken, refused, judge, leaves}
 use Rattle.shape.specs.Lists.{startOf, endOf, wordOf, runLong, runOf, longer}
 use Rattle.shape.specs.Strip.{Lane, welded, weldNext, keeps, stepOf, lastOf, keptOf, kept, noArea, ribAt, triangleOf, indicesAt, verticesOf, normalsOf, indicesOf}
-use Rattle.shape.specs.SurfaceMesh.{Given, lanesOf, laneRun, laneAt, spanOf, laneVertices, laneNormals, laneIndices, laneSpan, baseOf, indexOf, meshOf, inputFault, resultFault, countsOf, resultOf, answerOf, Grown, Topped, Enough, Sizes, Room, Wrote, Written, Fitting}
+use Rattle.shape.specs.SurfaceMesh.{Given, lanesOf, laneRun, laneAt, spanOf, laneVertices, laneNormals, laneIndices, laneSpan, baseOf, indexOf, meshOf, inputFault, resultFault, countsOf, resultOf, answerOf}
+use Rattle.shape.specs.MeshSteps.{Grown, Topped, Enough, Sizes, Room, Wrote, Written, Fitting}
 use Rattle.shape.specs.Laws.Gather.{gather-next, gather-fits, gather-most}
 use Rattle.shape.specs.Laws.Memory.{put-none, put-length, put-turn, put-front, sets-front}
 use Rattle.shape.proofs.Strips.{vertices-length, segment-length, cond-few}

@@ -13,6 +13,7 @@ pub mod ElevationSteps
 pub mod CasesElevation
 pub mod Strip
 pub mod SurfaceMesh
+pub mod MeshSteps
 pub mod CasesStrips
 pub mod Verdict
 pub mod Outline

@@ -2,17 +2,15 @@
 -- Definitions only. Assumes nothing.
 use mathlib.Core.Path.{_≡_}
 use mathlib.Core.List.{List, [], _∷_}
-use Prim.Native.Nat.{ℕ, zero, suc, _+_, _-_, _*_, _/_, _≤_}
+use Prim.Native.Nat.{ℕ, zero, suc, _+_, _*_, _/_}
 use lib.Dec.{ltb}
 use lib.ListN.{length}
 use lib.Ieee.{Float}
 use Rattle.vector.specs.Single.{single}
-use Rattle.shape.specs.declared.mesh.At.{At}
 use Rattle.shape.specs.declared.mesh.MeshCounts.{MeshCounts}
 use Rattle.shape.specs.declared.mesh.MeshAnswer.{MeshAnswer}
 use Rattle.shape.specs.declared.mesh.MeshAnswer.the-variants.{Made, Refused}
 use Rattle.shape.specs.Gather.{gather, any}
-use Rattle.shape.specs.Memory.{Put}
 use Rattle.shape.specs.Refusal.{Fault, fine, refuse, numberOf, placeOf, Answer, taken, refused, judge, leaves}
 use Rattle.shape.specs.Lists.{longer, uneven, wordOf, startOf, endOf, runBad, runLong, runOf, Mesh}
 use Rattle.shape.specs.Strip.{Lane, laneOf, kept, verticesOf, normalsOf, indicesOf}
@@ -138,68 +136,3 @@ pub record Meshes (g : Given) (a : Answer MeshCounts) (r : MeshAnswer) (v v′ n
   pub normals : n′ ≡ leaves a (meshOf g .normals) n
   pub indices : i′ ≡ leaves a (meshOf g .indices) i
   pub spans : s′ ≡ leaves a (meshOf g .spans) s
-
--- ---- steps on the way, for the private functions
-
--- what a lane with the strip l adds to the sizes `at`, which gives r
-pub record Grown (l : Lane) (at r : At) : Type 0 where
-  pub floats : r .floats ≡ at .floats + length (verticesOf l (kept l))
-  pub index : (v : ℕ) → r .index ≡ at .index + length (indicesOf v l (kept l))
-  pub word : (id v v′ i i′ : ℕ) → r .word ≡ at .word + length (spanOf (length (kept l)) id v v′ i i′)
-  pub few-floats : r .floats ≤ at .floats + 24576
-  pub few-index : r .index ≤ at .index + 24576
-  pub few-words : r .word ≤ at .word + 5
-
--- the most that lane k can add to the sizes `at`, which gives r: n ribs, a rib for each point or two
-pub record Topped (ls : List ℕ) (k : ℕ) (at r : At) : Type 0 where
-  pub ribs : ℕ
-  pub enough : endOf 10 1 ls k - startOf 10 1 ls k ≤ ribs
-  pub two : 2 ≤ ribs
-  pub few : ribs ≤ 4096
-  pub floats : r .floats ≡ at .floats + 6 * ribs
-  pub index : r .index ≡ at .index + 6 * (ribs - 1)
-  pub word : r .word ≡ at .word + 5
-
--- the mesh of the first n lanes is within the sizes r
-pub record Enough (g : Given) (n : ℕ) (r : At) : Type 0 where
-  pub floats : length (gather (laneVertices g) n) ≤ r .floats
-  pub index : length (gather (laneIndices g) n) ≤ r .index
-  pub word : length (gather (laneSpan g) n) ≤ r .word
-
--- the sizes of the mesh of the first n lanes
-pub record Sizes (g : Given) (n : ℕ) (r : At) : Type 0 where
-  pub floats : r .floats ≡ length (gather (laneVertices g) n)
-  pub index : r .index ≡ length (gather (laneIndices g) n)
-  pub word : r .word ≡ length (gather (laneSpan g) n)
-
--- there is room for a lane from `at` on, in the lent slices and below the limits
-pub record Room (l : Lane) (at : At) (v n : List Float) (i s : List ℕ) : Type 0 where
-  pub vertices : at .floats + length (verticesOf l (kept l)) ≤ length v
-  pub normals : at .floats + length (verticesOf l (kept l)) ≤ length n
-  pub indices : at .index + length (indicesOf (at .floats / 3) l (kept l)) ≤ length i
-  pub spans : (id a b d e : ℕ) → at .word + length (spanOf (length (kept l)) id a b d e) ≤ length s
-  pub few-floats : at .floats + length (verticesOf l (kept l)) ≤ 196608
-  pub few-index : at .index + length (indicesOf (at .floats / 3) l (kept l)) ≤ 196608
-
--- the strip of a lane stands in the memory from `at` to r
-pub record Wrote (l : Lane) (id : ℕ) (at r : At) (v v′ n n′ : List Float) (i i′ s s′ : List ℕ) : Type 0 where
-  pub vertices : Put v v′ (at .floats) (verticesOf l (kept l)) (r .floats)
-  pub normals : Put n n′ (at .floats) (normalsOf l (kept l)) (r .floats)
-  pub indices : Put i i′ (at .index) (indicesOf (at .floats / 3) l (kept l)) (r .index)
-  pub spans : Put s s′ (at .word) (spanOf (length (kept l)) id (at .floats / 3) (r .floats / 3) (at .index) (r .index)) (r .word)
-
--- the mesh of the first k lanes stands at the front of the memory
-pub record Written (g : Given) (k : ℕ) (r : At) (v v′ n n′ : List Float) (i i′ s s′ : List ℕ) : Type 0 where
-  pub vertices : Put v v′ 0 (gather (laneVertices g) k) (r .floats)
-  pub normals : Put n n′ 0 (gather (laneNormals g) k) (r .floats)
-  pub indices : Put i i′ 0 (gather (laneIndices g) k) (r .index)
-  pub spans : Put s s′ 0 (gather (laneSpan g) k) (r .word)
-
--- the mesh of the first k lanes fits the lent slices and the limits
-pub record Fitting (g : Given) (k : ℕ) (v n : List Float) (i s : List ℕ) : Type 0 where
-  pub vertices : length (gather (laneVertices g) k) ≤ length v
-  pub normals : length (gather (laneVertices g) k) ≤ length n
-  pub indices : length (gather (laneIndices g) k) ≤ length i
-  pub spans : length (gather (laneSpan g) k) ≤ length s
-  pub few-floats : length (gather (laneVertices g) k) ≤ 196608
-  pub few-index : length (gather (laneIndices g) k) ≤ 196608

@@ -8,7 +8,7 @@ use native.Mathlib.Nat.{mul-add}
 use native.Mathlib.Numerals.{add-one}
 use native.Mathlib.Omega.{arith}
 use lib.ListN.{length, getD, length-append}
-use Rattle.shape.specs.declared.mesh.Rib.{Rib}
+use Rattle.shape.specs.declared.rib.Rib.{Rib}
 use Rattle.shape.specs.Gather.{gather}
 use Rattle.shape.specs.Lists.{wordOf}
 use Rattle.shape.specs.Strip.{Lane, kept, noArea, sixOf, upsOf, triangleOf, segmentOf, verticesAt, normalsAt, indicesAt, verticesOf, normalsOf, indicesOf}
