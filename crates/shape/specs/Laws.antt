@@ -2,6 +2,7 @@
 pub mod Gather
 pub mod Memory
 pub mod Lists
+pub mod MeshMemory
 pub mod SurfaceMesh
 pub mod Outline
 pub mod Ears

@@ -6,6 +6,7 @@ use Prim.Native.Nat.{ℕ, _+_, _-_, _*_, _/_, _≤_}
 use lib.ListN.{length}
 use lib.Ieee.{Float, le}
 use Rattle.vector.specs.Single.{single, 1f}
+use Rattle.shape.specs.declared.memory.Lengths.{Lengths}
 use Rattle.shape.specs.declared.rib.Walk.{Walk}
 use Rattle.shape.specs.declared.strip.At.{At}
 use Rattle.shape.specs.Gather.{gather}
@@ -28,6 +29,10 @@ unfoldable pub walkAt : Lane → List ℕ → ℕ → Walk
 walkAt l ks i = record { rib = ribAt l ks i; out = legOut (l .points) ks i }
 
 -- ---- lanes
+
+-- the lengths of the lists that are written up to `at`
+abbrev pub lengthsAt : At → Lengths
+lengthsAt at = record { vertices = at .floats; normals = at .floats; indices = at .index; spans = at .word }
 
 -- what a lane with the strip l adds to the sizes `at`, which gives r
 pub record Grown (l : Lane) (at r : At) : Type 0 where

@@ -8,15 +8,20 @@ ghost use lib.ListN.{length};
 ghost use Rattle.vector.specs.Single.{single};
 ghost use Rattle.shape.specs.Gather.{any};
 ghost use Rattle.shape.specs.Refusal.{found, fine};
-ghost use Rattle.shape.specs.Lists.{wordOf, runLong};
-ghost use Rattle.shape.specs.SurfaceMesh.{given, laneRun, laneAt, inputFault, resultFault, countsOf, resultOf, answerOf, Meshes};
-ghost use Rattle.shape.specs.MeshSteps.{Grown, Topped, Enough, Sizes, Room, Wrote, Written, Fitting};
+ghost use Rattle.shape.specs.Lists.{wordOf, runLong, meshLists};
+ghost use Rattle.shape.specs.MeshMemory.{lengthsOf, roomFault, leavesMesh};
+ghost use Rattle.shape.specs.SurfaceMesh.{given, laneRun, laneAt, laneLimits, runsRagged, laneRagged, inputFault, meshOf, countsOf, readMesh, callFault, answerOf};
+ghost use Rattle.shape.specs.MeshSteps.{lengthsAt, Grown, Topped, Enough, Sizes, Room, Wrote, Written, Fitting};
 use crate::lists::any_bad;
 use crate::lists::any_long;
 use crate::lists::part;
 use crate::lists::record_word;
+use crate::memory::Lengths;
+use crate::memory::room_fault;
 use crate::refusal::Check;
 use crate::refusal::Refusal;
+use crate::refusal::oversize_if;
+use crate::refusal::ragged_if;
 use crate::strip::At;
 use crate::strip::put_strip;
 use crate::strip::size_strip;
@@ -79,7 +84,9 @@ fn put_lane(
 ) -> At
     requires { ⌜ (k < 2 ^ 58) × (runLong 10 1 (now lanes) 4096 k ≡ false) × (length (now kept) ≡ 4096) ⌝ }
     requires { ⌜ Room (laneAt (given (now points) (now tangents) (now widths) (now banks) (now lanes)) k) at (now vertices) (now normals) (now indices) (now spans) ⌝ }
-    ensures { λ r. ⌜ Wrote (laneAt (given (now (points .entry)) (now (tangents .entry)) (now (widths .entry)) (now (banks .entry)) (now (lanes .entry))) k) (wordOf 10 (now (lanes .entry)) k 0) at r (now (vertices .entry)) (now (vertices .exit)) (now (normals .entry)) (now (normals .exit)) (now (indices .entry)) (now (indices .exit)) (now (spans .entry)) (now (spans .exit)) ⌝ }
+    ensures { λ r.
+        let g = given (now (points .entry)) (now (tangents .entry)) (now (widths .entry)) (now (banks .entry)) (now (lanes .entry)) in
+        ⌜ Wrote (laneAt g k) (wordOf 10 (now (lanes .entry)) k 0) at r (now (vertices .entry)) (now (vertices .exit)) (now (normals .entry)) (now (normals .exit)) (now (indices .entry)) (now (indices .exit)) (now (spans .entry)) (now (spans .exit)) ⌝ }
 {
     let p = lane_run(3, points, lanes, 1, k);
     let t = lane_run(3, tangents, lanes, 3, k);
@@ -185,7 +192,9 @@ fn put_lanes(
 ) -> At
     requires { ⌜ (n ≤ 1024) × (any (runLong 10 1 (now lanes) 4096) n ≡ false) ⌝ }
     requires { ⌜ Fitting (given (now points) (now tangents) (now widths) (now banks) (now lanes)) n (now vertices) (now normals) (now indices) (now spans) ⌝ }
-    ensures { λ r. ⌜ Written (given (now (points .entry)) (now (tangents .entry)) (now (widths .entry)) (now (banks .entry)) (now (lanes .entry))) n r (now (vertices .entry)) (now (vertices .exit)) (now (normals .entry)) (now (normals .exit)) (now (indices .entry)) (now (indices .exit)) (now (spans .entry)) (now (spans .exit)) ⌝ }
+    ensures { λ r.
+        let g = given (now (points .entry)) (now (tangents .entry)) (now (widths .entry)) (now (banks .entry)) (now (lanes .entry)) in
+        ⌜ Written g n r (now (vertices .entry)) (now (vertices .exit)) (now (normals .entry)) (now (normals .exit)) (now (indices .entry)) (now (indices .exit)) (now (spans .entry)) (now (spans .exit)) ⌝ }
 {
     let mut kept = [0u32; 4096];
     let mut at = At {
@@ -229,15 +238,73 @@ pub enum MeshAnswer {
     Refused(Refusal),
 }
 
-fn counts(at: At) -> MeshCounts
-    ensures { λ r. ⌜ r ≡ countsOf (at .floats) (at .index) (at .word) ⌝ }
+fn counts(made: Lengths) -> MeshCounts
+    ensures { λ r. ⌜ r ≡ countsOf made ⌝ }
 {
     MeshCounts {
-        vertices: at.floats / 3,
-        normals: at.floats / 3,
-        indices: at.index,
-        spans: at.word / 5,
+        vertices: made.vertices / 3,
+        normals: made.normals / 3,
+        indices: made.indices,
+        spans: made.spans / 5,
     }
+}
+
+// The lists up to `at`: there are as many normals as vertices.
+fn lengths_at(at: At) -> Lengths
+    ensures { λ r. ⌜ r ≡ lengthsAt at ⌝ }
+{
+    Lengths {
+        vertices: at.floats,
+        normals: at.floats,
+        indices: at.index,
+        spans: at.word,
+    }
+}
+
+// Runs and lanes past their limits.
+fn lane_limits(lanes: &[u32]) -> Check
+    ensures { λ r. ⌜ found r ≡ laneLimits (now (lanes .entry)) ⌝ }
+{
+    let n = lanes.len() / 10;
+    let many = oversize_if(10 * 1024 < lanes.len(), 1024, Check::Fine);
+    let banks = oversize_if(any_long(lanes, 10, 7, 4096, n), 4096, many);
+    let widths = oversize_if(any_long(lanes, 10, 5, 4096, n), 4096, banks);
+    let tangents = oversize_if(any_long(lanes, 10, 3, 4096, n), 4096, widths);
+    oversize_if(any_long(lanes, 10, 1, 4096, n), 4096, tangents)
+}
+
+// Runs out of order or past their lists.
+fn runs_ragged(
+    points: &[f32],
+    tangents: &[f32],
+    widths: &[f32],
+    banks: &[f32],
+    lanes: &[u32],
+) -> Check
+    ensures { λ r. let g = given (now (points .entry)) (now (tangents .entry)) (now (widths .entry)) (now (banks .entry)) (now (lanes .entry)) in ⌜ found r ≡ runsRagged g ⌝ }
+{
+    let n = lanes.len() / 10;
+    let of_banks = ragged_if(any_bad(lanes, 10, 7, banks.len() / 2, n), 4, Check::Fine);
+    let of_widths = ragged_if(any_bad(lanes, 10, 5, widths.len(), n), 4, of_banks);
+    let of_tangents = ragged_if(any_bad(lanes, 10, 3, tangents.len() / 3, n), 4, of_widths);
+    ragged_if(any_bad(lanes, 10, 1, points.len() / 3, n), 4, of_tangents)
+}
+
+// Lists not in their units, and such runs.
+fn lane_ragged(
+    points: &[f32],
+    tangents: &[f32],
+    widths: &[f32],
+    banks: &[f32],
+    lanes: &[u32],
+) -> Check
+    ensures { λ r. let g = given (now (points .entry)) (now (tangents .entry)) (now (widths .entry)) (now (banks .entry)) (now (lanes .entry)) in ⌜ found r ≡ laneRagged g ⌝ }
+{
+    let runs = runs_ragged(points, tangents, widths, banks, lanes);
+    let of_lanes = ragged_if(lanes.len() % 10 != 0, 4, runs);
+    let of_banks = ragged_if(banks.len() % 2 != 0, 3, of_lanes);
+    let of_tangents = ragged_if(tangents.len() % 3 != 0, 1, of_banks);
+    ragged_if(points.len() % 3 != 0, 0, of_tangents)
 }
 
 // Why the input is turned back, if it is.
@@ -248,173 +315,55 @@ fn input_fault(
     banks: &[f32],
     lanes: &[u32],
 ) -> Check
-    ensures { λ r. ⌜ found r ≡ inputFault (given (now (points .entry)) (now (tangents .entry)) (now (widths .entry)) (now (banks .entry)) (now (lanes .entry))) ⌝ }
+    ensures { λ r. let g = given (now (points .entry)) (now (tangents .entry)) (now (widths .entry)) (now (banks .entry)) (now (lanes .entry)) in ⌜ found r ≡ inputFault g ⌝ }
 {
-    let n = lanes.len() / 10;
-    if any_long(lanes, 10, 1, 4096, n) {
-        return Check::Faulty(Refusal::Oversize(4096));
+    let limits = lane_limits(lanes);
+    match limits {
+        Check::Faulty(r) => Check::Faulty(r),
+        Check::Fine => lane_ragged(points, tangents, widths, banks, lanes),
     }
-    if any_long(lanes, 10, 3, 4096, n) {
-        return Check::Faulty(Refusal::Oversize(4096));
-    }
-    if any_long(lanes, 10, 5, 4096, n) {
-        return Check::Faulty(Refusal::Oversize(4096));
-    }
-    if any_long(lanes, 10, 7, 4096, n) {
-        return Check::Faulty(Refusal::Oversize(4096));
-    }
-    if 10 * 1024 < lanes.len() {
-        return Check::Faulty(Refusal::Oversize(1024));
-    }
-    if points.len() % 3 != 0 {
-        return Check::Faulty(Refusal::Ragged(0));
-    }
-    if tangents.len() % 3 != 0 {
-        return Check::Faulty(Refusal::Ragged(1));
-    }
-    if banks.len() % 2 != 0 {
-        return Check::Faulty(Refusal::Ragged(3));
-    }
-    if lanes.len() % 10 != 0 {
-        return Check::Faulty(Refusal::Ragged(4));
-    }
-    if any_bad(lanes, 10, 1, points.len() / 3, n) {
-        return Check::Faulty(Refusal::Ragged(4));
-    }
-    if any_bad(lanes, 10, 3, tangents.len() / 3, n) {
-        return Check::Faulty(Refusal::Ragged(4));
-    }
-    if any_bad(lanes, 10, 5, widths.len(), n) {
-        return Check::Faulty(Refusal::Ragged(4));
-    }
-    if any_bad(lanes, 10, 7, banks.len() / 2, n) {
-        return Check::Faulty(Refusal::Ragged(4));
-    }
-    Check::Fine
 }
 
-// Why the result is turned back, if it is: its sizes, and the lent slices' lengths.
-fn result_fault(at: At, vertices: usize, normals: usize, indices: usize, spans: usize) -> Check
-    ensures { λ r. ⌜ found r ≡ resultFault (at .floats) (at .index) (at .word) vertices normals indices spans ⌝ }
-{
-    if 3 * 65536 < at.floats {
-        return Check::Faulty(Refusal::Oversize(65536));
-    }
-    if 196608 < at.index {
-        return Check::Faulty(Refusal::Oversize(196608));
-    }
-    if 5 * 1024 < at.word {
-        return Check::Faulty(Refusal::Oversize(1024));
-    }
-    if vertices < at.floats {
-        return Check::Faulty(Refusal::ShortOutput(at.floats));
-    }
-    if normals < at.floats {
-        return Check::Faulty(Refusal::ShortOutput(at.floats));
-    }
-    if indices < at.index {
-        return Check::Faulty(Refusal::ShortOutput(at.index));
-    }
-    if spans < at.word {
-        return Check::Faulty(Refusal::ShortOutput(at.word));
-    }
-    Check::Fine
-}
-
-// The call, once its input is checked: the mesh is counted, and written if it fits.
-fn mesh_counted(
+// Why the mesh of checked lanes is not written, if it is not. Where the most that the lanes can give fits,
+// nothing need be counted first.
+fn mesh_room(
     points: &[f32],
     tangents: &[f32],
     widths: &[f32],
     banks: &[f32],
     lanes: &[u32],
-    vertices: &mut [f32],
-    normals: &mut [f32],
-    indices: &mut [u32],
-    spans: &mut [u32],
-) -> MeshAnswer
-    requires { ⌜ inputFault (given (now points) (now tangents) (now widths) (now banks) (now lanes)) ≡ fine ⌝ }
-    ensures { λ r. ⌜ Meshes (given (now (points .entry)) (now (tangents .entry)) (now (widths .entry)) (now (banks .entry)) (now (lanes .entry))) (resultOf (given (now (points .entry)) (now (tangents .entry)) (now (widths .entry)) (now (banks .entry)) (now (lanes .entry))) (length (now (vertices .entry))) (length (now (normals .entry))) (length (now (indices .entry))) (length (now (spans .entry)))) r (now (vertices .entry)) (now (vertices .exit)) (now (normals .entry)) (now (normals .exit)) (now (indices .entry)) (now (indices .exit)) (now (spans .entry)) (now (spans .exit)) ⌝ }
+    lent: Lengths,
+) -> Check
+    requires { let g = given (now points) (now tangents) (now widths) (now banks) (now lanes) in ⌜ inputFault g ≡ fine ⌝ }
+    ensures { λ r. let g = given (now (points .entry)) (now (tangents .entry)) (now (widths .entry)) (now (banks .entry)) (now (lanes .entry)) in ⌜ found r ≡ roomFault (lengthsOf (meshOf g)) lent ⌝ }
 {
     let n = lanes.len() / 10;
-    let at = totals(points, tangents, widths, banks, lanes, n);
-    let f = result_fault(
-        at,
-        vertices.len(),
-        normals.len(),
-        indices.len(),
-        spans.len(),
-    );
+    let most = lengths_at(most_sizes(lanes, n));
+    let f = room_fault(most, lent);
     match f {
-        Check::Faulty(r) => MeshAnswer::Refused(r),
-        Check::Fine => {
-            let e = put_lanes(
-                points,
-                tangents,
-                widths,
-                banks,
-                lanes,
-                n,
-                vertices,
-                normals,
-                indices,
-                spans,
-            );
-            MeshAnswer::Made(counts(e))
+        Check::Fine => Check::Fine,
+        Check::Faulty(r) => {
+            let at = totals(points, tangents, widths, banks, lanes, n);
+            room_fault(lengths_at(at), lent)
         }
     }
 }
 
-// The same. Where the most that the lanes can give fits, nothing need be counted first.
-fn mesh_checked(
+// Why the call is turned back, if it is.
+fn call_fault(
     points: &[f32],
     tangents: &[f32],
     widths: &[f32],
     banks: &[f32],
     lanes: &[u32],
-    vertices: &mut [f32],
-    normals: &mut [f32],
-    indices: &mut [u32],
-    spans: &mut [u32],
-) -> MeshAnswer
-    requires { ⌜ inputFault (given (now points) (now tangents) (now widths) (now banks) (now lanes)) ≡ fine ⌝ }
-    ensures { λ r. ⌜ Meshes (given (now (points .entry)) (now (tangents .entry)) (now (widths .entry)) (now (banks .entry)) (now (lanes .entry))) (resultOf (given (now (points .entry)) (now (tangents .entry)) (now (widths .entry)) (now (banks .entry)) (now (lanes .entry))) (length (now (vertices .entry))) (length (now (normals .entry))) (length (now (indices .entry))) (length (now (spans .entry)))) r (now (vertices .entry)) (now (vertices .exit)) (now (normals .entry)) (now (normals .exit)) (now (indices .entry)) (now (indices .exit)) (now (spans .entry)) (now (spans .exit)) ⌝ }
+    lent: Lengths,
+) -> Check
+    ensures { λ r. let g = given (now (points .entry)) (now (tangents .entry)) (now (widths .entry)) (now (banks .entry)) (now (lanes .entry)) in ⌜ found r ≡ callFault g lent ⌝ }
 {
-    let n = lanes.len() / 10;
-    let f = result_fault(
-        most_sizes(lanes, n),
-        vertices.len(),
-        normals.len(),
-        indices.len(),
-        spans.len(),
-    );
-    match f {
-        Check::Faulty(r) => mesh_counted(
-            points,
-            tangents,
-            widths,
-            banks,
-            lanes,
-            vertices,
-            normals,
-            indices,
-            spans,
-        ),
-        Check::Fine => {
-            let e = put_lanes(
-                points,
-                tangents,
-                widths,
-                banks,
-                lanes,
-                n,
-                vertices,
-                normals,
-                indices,
-                spans,
-            );
-            MeshAnswer::Made(counts(e))
-        }
+    let input = input_fault(points, tangents, widths, banks, lanes);
+    match input {
+        Check::Faulty(r) => Check::Faulty(r),
+        Check::Fine => mesh_room(points, tangents, widths, banks, lanes, lent),
     }
 }
 
@@ -432,21 +381,40 @@ pub fn surface_mesh(
     indices: &mut [u32],
     spans: &mut [u32],
 ) -> MeshAnswer
-    ensures { λ r. ⌜ Meshes (given (now (points .entry)) (now (tangents .entry)) (now (widths .entry)) (now (banks .entry)) (now (lanes .entry))) (answerOf (given (now (points .entry)) (now (tangents .entry)) (now (widths .entry)) (now (banks .entry)) (now (lanes .entry))) (length (now (vertices .entry))) (length (now (normals .entry))) (length (now (indices .entry))) (length (now (spans .entry)))) r (now (vertices .entry)) (now (vertices .exit)) (now (normals .entry)) (now (normals .exit)) (now (indices .entry)) (now (indices .exit)) (now (spans .entry)) (now (spans .exit)) ⌝ }
+    ensures { λ r.
+        let g = given (now (points .entry)) (now (tangents .entry)) (now (widths .entry)) (now (banks .entry)) (now (lanes .entry)) in
+        let before = meshLists (now (vertices .entry)) (now (normals .entry)) (now (indices .entry)) (now (spans .entry)) in
+        ⌜ readMesh r ≡ answerOf g before ⌝ }
+    ensures { λ _.
+        let g = given (now (points .entry)) (now (tangents .entry)) (now (widths .entry)) (now (banks .entry)) (now (lanes .entry)) in
+        let before = meshLists (now (vertices .entry)) (now (normals .entry)) (now (indices .entry)) (now (spans .entry)) in
+        let after = meshLists (now (vertices .exit)) (now (normals .exit)) (now (indices .exit)) (now (spans .exit)) in
+        ⌜ after ≡ leavesMesh (answerOf g before) (meshOf g) before ⌝ }
 {
-    let f = input_fault(points, tangents, widths, banks, lanes);
+    let lent = Lengths {
+        vertices: vertices.len(),
+        normals: normals.len(),
+        indices: indices.len(),
+        spans: spans.len(),
+    };
+    let f = call_fault(points, tangents, widths, banks, lanes, lent);
     match f {
         Check::Faulty(r) => MeshAnswer::Refused(r),
-        Check::Fine => mesh_checked(
-            points,
-            tangents,
-            widths,
-            banks,
-            lanes,
-            vertices,
-            normals,
-            indices,
-            spans,
-        ),
+        Check::Fine => {
+            let n = lanes.len() / 10;
+            let at = put_lanes(
+                points,
+                tangents,
+                widths,
+                banks,
+                lanes,
+                n,
+                vertices,
+                normals,
+                indices,
+                spans,
+            );
+            MeshAnswer::Made(counts(lengths_at(at)))
+        }
     }
 }

@@ -146,7 +146,12 @@ fn put_ribs(
 ) -> At
     requires { ⌜ (0 < length (now ks)) × (at .floats + 6 * length (now ks) ≤ length (now vertices)) × (at .floats + 6 * length (now ks) ≤ length (now normals)) × (at .floats / 3 + 2 * length (now ks) < 4294967290) ⌝ }
     requires { ⌜ at .index + length (indicesOf (at .floats / 3) (laneOf (now points) (now tangents) (now widths) (now banks) width) (now ks)) ≤ length (now indices) ⌝ }
-    ensures { λ r. ⌜ (Put (now (vertices .entry)) (now (vertices .exit)) (at .floats) (verticesOf (laneOf (now (points .entry)) (now (tangents .entry)) (now (widths .entry)) (now (banks .entry)) width) (now (ks .entry))) (r .floats)) × (Put (now (normals .entry)) (now (normals .exit)) (at .floats) (normalsOf (laneOf (now (points .entry)) (now (tangents .entry)) (now (widths .entry)) (now (banks .entry)) width) (now (ks .entry))) (r .floats)) × (Put (now (indices .entry)) (now (indices .exit)) (at .index) (indicesOf (at .floats / 3) (laneOf (now (points .entry)) (now (tangents .entry)) (now (widths .entry)) (now (banks .entry)) width) (now (ks .entry))) (r .index)) ⌝ }
+    ensures { λ r.
+        let l = laneOf (now (points .entry)) (now (tangents .entry)) (now (widths .entry)) (now (banks .entry)) width in
+        let k = now (ks .entry) in
+        ⌜ (Put (now (vertices .entry)) (now (vertices .exit)) (at .floats) (verticesOf l k) (r .floats))
+        × (Put (now (normals .entry)) (now (normals .exit)) (at .floats) (normalsOf l k) (r .floats))
+        × (Put (now (indices .entry)) (now (indices .exit)) (at .index) (indicesOf (at .floats / 3) l k) (r .index)) ⌝ }
 {
     let v = at.floats / 3;
     let mut w = walk_at(points, tangents, widths, banks, width, ks, 0, no_leg());
@@ -226,7 +231,9 @@ pub(crate) fn put_strip(
 ) -> At
     requires { ⌜ (length (now points) / 3 ≤ 4096) × (id < 2 ^ 32) × (length (now kept) ≡ 4096) ⌝ }
     requires { ⌜ Room (laneOf (now points) (now tangents) (now widths) (now banks) width) at (now vertices) (now normals) (now indices) (now spans) ⌝ }
-    ensures { λ r. ⌜ Wrote (laneOf (now (points .entry)) (now (tangents .entry)) (now (widths .entry)) (now (banks .entry)) width) id at r (now (vertices .entry)) (now (vertices .exit)) (now (normals .entry)) (now (normals .exit)) (now (indices .entry)) (now (indices .exit)) (now (spans .entry)) (now (spans .exit)) ⌝ }
+    ensures { λ r.
+        let l = laneOf (now (points .entry)) (now (tangents .entry)) (now (widths .entry)) (now (banks .entry)) width in
+        ⌜ Wrote l id at r (now (vertices .entry)) (now (vertices .exit)) (now (normals .entry)) (now (normals .exit)) (now (indices .entry)) (now (indices .exit)) (now (spans .entry)) (now (spans .exit)) ⌝ }
 {
     let n = weld(points, kept);
     if n == 0 {

@@ -75,8 +75,12 @@ fn is_kept(square: f32, last: f32) -> bool
 // Point i, after those that `h` tells of.
 fn weld_step(points: &[f32], kept: &mut [u32], h: Welding, i: usize) -> Welding
     requires { ⌜ (h .last < i) × (i < 2 ^ 32) × (h .count < length (now kept)) × (h .count < 2 ^ 32) ⌝ }
-    ensures { λ r. ⌜ (r .last ≡ cond (keeps (now (points .entry)) (h .last) (sqrtOf binary32 (h .square)) i) i (h .last)) × (sqrtOf binary32 (r .square) ≡ cond (keeps (now (points .entry)) (h .last) (sqrtOf binary32 (h .square)) i) (stepOf (now (points .entry)) (h .last) i) (sqrtOf binary32 (h .square))) ⌝ }
-    ensures { λ r. ⌜ Put (now (kept .entry)) (now (kept .exit)) (h .count) (cond (keeps (now (points .entry)) (h .last) (sqrtOf binary32 (h .square)) i) (h .last ∷ []) []) (r .count) ⌝ }
+    ensures { λ r.
+        let k = keeps (now (points .entry)) (h .last) (sqrtOf binary32 (h .square)) i in
+        ⌜ (r .last ≡ cond k i (h .last)) × (sqrtOf binary32 (r .square) ≡ cond k (stepOf (now (points .entry)) (h .last) i) (sqrtOf binary32 (h .square))) ⌝ }
+    ensures { λ r.
+        let k = keeps (now (points .entry)) (h .last) (sqrtOf binary32 (h .square)) i in
+        ⌜ Put (now (kept .entry)) (now (kept .exit)) (h .count) (cond k (h .last ∷ []) []) (r .count) ⌝ }
 {
     let d = point_at(points, i).sub(point_at(points, h.last));
     let square = d.length_squared();
