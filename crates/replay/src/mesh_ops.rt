@@ -15,8 +15,8 @@ use crate::numbers::put_test;
 use crate::stream::put;
 use shape::lists::part;
 use shape::mesh::MeshAnswer;
-use shape::mesh::no_area;
 use shape::mesh::surface_mesh;
+use shape::strip::no_area;
 use std::num::wrapping_add_usize;
 
 pub fn no_area_case(given: &[u32], made: &mut [u32]) -> usize {

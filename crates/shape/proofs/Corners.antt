@@ -18,9 +18,10 @@ use Rattle.rounding.specs.Laws.Quotients.{div-mono}
 use Rattle.rounding.specs.Laws.RootOrder.{nought, sqrt-mono}
 use Rattle.vector.specs.Single.{_⊗_, _⊘_, single, 0f, 1f}
 use Rattle.vector.specs.declared.coords.Vector.{Vector}
-use Rattle.shape.specs.declared.mesh.Leg.{Leg}
-use Rattle.shape.specs.declared.mesh.Spread.{Spread}
-use Rattle.shape.specs.Strip.{most, tiny, Mild, shorterOf, eatSquareOf, eatOf, pinches, innerOf, turnsLeft, spreadOf}
+use Rattle.shape.specs.declared.rib.Leg.{Leg}
+use Rattle.shape.specs.declared.rib.Spread.{Spread}
+use Rattle.shape.specs.Strip.{most, tiny, shorterOf, eatSquareOf, eatOf, pinches, innerOf, turnsLeft, spreadOf}
+use Rattle.shape.specs.MeshSteps.{Mild}
 
 -- 2^-8 and 2^-4, 7
 abbrev 1/256 : Float

@@ -5,19 +5,28 @@ use mathlib.Core.List.{List, [], _∷_}
 use Prim.Native.Nat.{ℕ, zero, suc, _+_, _-_, _*_, _/_, _<_, _≤_, _^_}
 use native.Mathlib.Nat.{zero-add}
 use native.Mathlib.Omega.{arith}
-use borrow.Author.Tests.{ltb-false, le-ltb}
+use borrow.Author.Tests.{ltb-false}
 use lib.Ieee.{Float, lt}
 use lib.ListN.{length, take, drop, length-take, length-append}
 use Rattle.rounding.specs.Thresholds.{micro}
-use Rattle.shape.specs.declared.mesh.At.{At}
+use Rattle.shape.specs.declared.memory.Lengths.{Lengths}
+use Rattle.shape.specs.declared.mesh.MeshCounts.{MeshCounts}
+use Rattle.shape.specs.declared.mesh.MeshAnswer.the-variants.{Made, Refused}
+use Rattle.shape.specs.declared.refusal.Refusal.{Refusal}
+use Rattle.shape.specs.declared.refusal.Check.the-variants.{Faulty}
+use Rattle.shape.specs.declared.strip.At.{At}
 use Rattle.shape.specs.Gather.{gather, any}
 use Rattle.shape.specs.Memory.{Put}
-use Rattle.shape.specs.Refusal.{Fault, fine, fault, refuse, Answer, taken, refused, judge, leaves}
-use Rattle.shape.specs.Lists.{startOf, endOf, wordOf, runLong, runOf, longer}
+use Rattle.shape.specs.Refusal.{fine, found, numberOf, placeOf, taken, refused, judge}
+use Rattle.shape.specs.Lists.{startOf, endOf, wordOf, runLong, runOf, longer, Mesh, meshLists}
+use Rattle.shape.specs.MeshMemory.{lengthsOf, roomFault, meshRoom, leavesMesh}
 use Rattle.shape.specs.Strip.{Lane, welded, weldNext, keeps, stepOf, lastOf, keptOf, kept, noArea, ribAt, triangleOf, indicesAt, verticesOf, normalsOf, indicesOf}
-use Rattle.shape.specs.SurfaceMesh.{Given, lanesOf, laneRun, laneAt, spanOf, laneVertices, laneNormals, laneIndices, laneSpan, baseOf, indexOf, meshOf, inputFault, resultFault, countsOf, resultOf, answerOf, Grown, Topped, Enough, Sizes, Room, Wrote, Written, Fitting}
+use Rattle.shape.specs.SurfaceMesh.{Given, lanesOf, laneRun, laneAt, spanOf, laneVertices, laneNormals, laneIndices, laneSpan, baseOf, indexOf, meshOf, laneLimits, laneRagged, inputFault, countsOf, callFault, readMesh, answerOf}
+use Rattle.shape.specs.MeshSteps.{lengthsAt, Grown, Topped, Enough, Sizes, Room, Wrote, Written, Fitting}
 use Rattle.shape.specs.Laws.Gather.{gather-next, gather-fits, gather-most}
-use Rattle.shape.specs.Laws.Memory.{put-none, put-length, put-turn, put-front, sets-front}
+use Rattle.shape.specs.Laws.Memory.{put-none, put-length, put-turn, put-front}
+use Rattle.shape.specs.Laws.MeshMemory.{Fits, first-fine, both-fine, room-fits, fits-room, mesh-left, mesh-stays}
+use Rattle.shape.specs.Laws.SurfaceMesh.{normals-match}
 use Rattle.shape.proofs.Strips.{vertices-length, segment-length, cond-few}
 
 -- a run that is not too long
@@ -241,123 +250,91 @@ module _ (g : Given) (k : ℕ) (at : At) {v v₁ n n₁ : List Float} {i i₁ s 
 
 -- ---- the answer
 
--- a check that finds nothing: its first test fails, and what comes after finds nothing
-first : (b : Bool) (n p : ℕ) (after : Fault) → refuse b n p after ≡ fine → b ≡ false
-unfolding refuse
-first false n p after e = refl
-first true n p after e = absurd (let z : _≡_ {A = ℕ} 0 1 = cc in omega arith)
-
-rest : (b : Bool) (n p : ℕ) (after : Fault) → refuse b n p after ≡ fine → after ≡ fine
-unfolding refuse
-rest false n p after e = e
-rest true n p after e = absurd (let z : _≡_ {A = ℕ} 0 1 = cc in omega arith)
-
 pub few-lanes : (g : Given) → inputFault g ≡ fine → (lanesOf g ≤ 1024) × (any (runLong 10 1 (g .lanes) 4096) (lanesOf g) ≡ false)
-unfolding inputFault longer
+unfolding inputFault laneLimits longer
 few-lanes g e =
-    let h : length (g .lanes) ≤ 10 * 1024 =
-    ltb-false (10 * 1024) (length (g .lanes)) (first _ _ _ _ (rest _ _ _ _ (rest _ _ _ _ (rest _ _ _ _ (rest _ _ _ _ e))))) in
-    (omega arith, first _ _ _ _ e)
+    let a = first-fine _ _ _ _ (both-fine (laneLimits (g .lanes)) (laneRagged g) e .0) in
+    let b = first-fine _ _ _ _ (first-fine _ _ _ _ (first-fine _ _ _ _ (a .1) .1) .1) in
+    let h : length (g .lanes) ≤ 10 * 1024 = ltb-false (10 * 1024) (length (g .lanes)) (first-fine _ _ _ _ (b .1) .0) in
+    (omega arith, a .0)
 
-module _ (g : Given) (at : At) (sizes : Sizes g (lanesOf g) at) (v n : List Float) (i s : List ℕ) where
-  pub fitting : resultFault (at .floats) (at .index) (at .word) (length v) (length n) (length i) (length s) ≡ fine → Fitting g (lanesOf g) v n i s
-  unfolding resultFault
-  fitting e₁ =
-      let e₂ = rest _ _ _ _ e₁ in
-      let e₃ = rest _ _ _ _ e₂ in
-      let e₄ = rest _ _ _ _ e₃ in
-      let e₅ = rest _ _ _ _ e₄ in
-      let e₆ = rest _ _ _ _ e₅ in
-      let e₇ = rest _ _ _ _ e₆ in
-      record {
-        vertices = rw (← (sizes .floats)) (ltb-false (length v) (at .floats) (first _ _ _ _ e₄));
-        normals = rw (← (sizes .floats)) (ltb-false (length n) (at .floats) (first _ _ _ _ e₅));
-        indices = rw (← (sizes .index)) (ltb-false (length i) (at .index) (first _ _ _ _ e₆));
-        spans = rw (← (sizes .word)) (ltb-false (length s) (at .word) (first _ _ _ _ e₇));
-        few-floats = rw (← (sizes .floats)) (ltb-false 196608 (at .floats) (first _ _ _ _ e₁));
-        few-index = rw (← (sizes .index)) (ltb-false 196608 (at .index) (first _ _ _ _ e₂));
-      }
+same-lengths : {v v′ n n′ i i′ s s′ : ℕ} → v ≡ v′ → n ≡ n′ → i ≡ i′ → s ≡ s′
+    → _≡_ {A = Lengths} (record { vertices = v; normals = n; indices = i; spans = s }) (record { vertices = v′; normals = n′; indices = i′; spans = s′ })
+same-lengths a b c d = rw (a, b, c, d)
 
-  pub turned-back : (a b : ℕ) → resultFault (at .floats) (at .index) (at .word) (length v) (length n) (length i) (length s) ≡ fault a b
-      → refused a b ≡ resultOf g (length v) (length n) (length i) (length s)
-  unfolding resultOf judge meshOf
-  turned-back a b e = rw (← (sizes .floats), ← (sizes .index), ← (sizes .word), e)
+module _ (g : Given) (at : At) where
+  -- where all lanes are counted
+  pub all-lengths : Sizes g (lanesOf g) at → lengthsAt at ≡ lengthsOf (meshOf g)
+  unfolding meshOf
+  all-lengths z = same-lengths (z .floats) (z .floats ∙ sym (normals-match g)) (z .index) (z .word)
 
--- where the most fits, so does the mesh
-module _ (g : Given) (at : At) (enough : Enough g (lanesOf g) at) (v n : List Float) (i s : List ℕ)
-    (e : resultFault (at .floats) (at .index) (at .word) (length v) (length n) (length i) (length s) ≡ fine) where
-  pub most-fits : Fitting g (lanesOf g) v n i s
-  unfolding resultFault
-  most-fits =
-      let e₂ = rest _ _ _ _ e in
-      let e₃ = rest _ _ _ _ e₂ in
-      let e₄ = rest _ _ _ _ e₃ in
-      let e₅ = rest _ _ _ _ e₄ in
-      let e₆ = rest _ _ _ _ e₅ in
-      let e₇ = rest _ _ _ _ e₆ in
-      record {
-        vertices = omega (arith, enough .floats, ltb-false (length v) (at .floats) (first _ _ _ _ e₄));
-        normals = omega (arith, enough .floats, ltb-false (length n) (at .floats) (first _ _ _ _ e₅));
-        indices = omega (arith, enough .index, ltb-false (length i) (at .index) (first _ _ _ _ e₆));
-        spans = omega (arith, enough .word, ltb-false (length s) (at .word) (first _ _ _ _ e₇));
-        few-floats = omega (arith, enough .floats, ltb-false 196608 (at .floats) (first _ _ _ _ e));
-        few-index = omega (arith, enough .index, ltb-false 196608 (at .index) (first _ _ _ _ e₂));
-      }
-
-  most-words : at .word ≤ 5 * 1024
-  unfolding resultFault
-  most-words = ltb-false (5 * 1024) (at .word) (first _ _ _ _ (rest _ _ _ _ (rest _ _ _ _ e)))
-
-  pub most-fine : (r : At) → Sizes g (lanesOf g) r → resultFault (r .floats) (r .index) (r .word) (length v) (length n) (length i) (length s) ≡ fine
-  unfolding resultFault refuse
-  most-fine r z =
-      let f = most-fits in
-      let w : r .word ≤ 5 * 1024 = omega (arith, z .word, enough .word, most-words) in
-      let p₁ : r .floats ≤ 196608 = omega (arith, z .floats, f .few-floats) in
-      let p₂ : r .index ≤ 196608 = omega (arith, z .index, f .few-index) in
-      let p₃ : r .floats ≤ length v = omega (arith, z .floats, f .vertices) in
-      let p₄ : r .floats ≤ length n = omega (arith, z .floats, f .normals) in
-      let p₅ : r .index ≤ length i = omega (arith, z .index, f .indices) in
-      let p₆ : r .word ≤ length s = omega (arith, z .word, f .spans) in
-      simp (le-ltb 196608 (r .floats) p₁, le-ltb 196608 (r .index) p₂, le-ltb (5 * 1024) (r .word) w, le-ltb (length v) (r .floats) p₃, le-ltb (length n) (r .floats) p₄, le-ltb (length i) (r .index) p₅, le-ltb (length s) (r .word) p₆)
+  -- where the most fits, so does the mesh
+  pub most-fine : Enough g (lanesOf g) at → (lent : Lengths) → roomFault (lengthsAt at) lent ≡ fine → roomFault (lengthsOf (meshOf g)) lent ≡ fine
+  unfolding meshOf
+  most-fine z lent e =
+      let f = room-fits (lengthsAt at) lent e in
+      let n = normals-match g in
+      fits-room (lengthsOf (meshOf g)) lent
+      (record {
+        few-vertices = omega (arith, z .floats, f .few-vertices);
+        few-normals = omega (arith, n, z .floats, f .few-normals);
+        few-indices = omega (arith, z .index, f .few-indices);
+        few-spans = omega (arith, z .word, f .few-spans);
+        vertices = omega (arith, z .floats, f .vertices);
+        normals = omega (arith, n, z .floats, f .normals);
+        indices = omega (arith, z .index, f .indices);
+        spans = omega (arith, z .word, f .spans);
+      })
 
 -- what is written is what the definition counts
-module _ (g : Given) (r : At) {v v′ n n′ : List Float} {i i′ s s′ : List ℕ} (w : Written g (lanesOf g) r v v′ n n′ i i′ s s′) where
-  pub written-sizes : Sizes g (lanesOf g) r
-  written-sizes =
+pub written-sizes : (g : Given) (r : At) {v v′ n n′ : List Float} {i i′ s s′ : List ℕ} → Written g (lanesOf g) r v v′ n n′ i i′ s s′ → Sizes g (lanesOf g) r
+written-sizes g r w =
+    record {
+      floats = w .vertices .ends ∙ zero-add (length (gather (laneVertices g) (lanesOf g)));
+      index = w .indices .ends ∙ zero-add (length (gather (laneIndices g) (lanesOf g)));
+      word = w .spans .ends ∙ zero-add (length (gather (laneSpan g) (lanesOf g)));
+    }
+
+-- a call that is not turned back
+module _ (g : Given) (v n : List Float) (i s : List ℕ) (e : callFault g (lengthsOf (meshLists v n i s)) ≡ fine) where
+  pub input-fine : inputFault g ≡ fine
+  unfolding callFault
+  input-fine = both-fine (inputFault g) (meshRoom (meshOf g) (meshLists v n i s)) e .0
+
+  all-fits : Fits (lengthsOf (meshOf g)) (lengthsOf (meshLists v n i s))
+  unfolding callFault
+  all-fits = room-fits _ _ (both-fine (inputFault g) (meshRoom (meshOf g) (meshLists v n i s)) e .1)
+
+  pub fitting : Fitting g (lanesOf g) v n i s
+  unfolding meshOf
+  fitting =
+      let f = all-fits in
       record {
-        floats = w .vertices .ends ∙ zero-add (length (gather (laneVertices g) (lanesOf g)));
-        index = w .indices .ends ∙ zero-add (length (gather (laneIndices g) (lanesOf g)));
-        word = w .spans .ends ∙ zero-add (length (gather (laneSpan g) (lanesOf g)));
+        vertices = f .vertices;
+        normals = omega (arith, f .normals, normals-match g);
+        indices = f .indices;
+        spans = f .spans;
+        few-floats = f .few-vertices;
+        few-index = f .few-indices;
       }
 
--- two counts of one mesh are turned back alike
-pub same-fault : (g : Given) (at r : At) (v n i s : ℕ) → Sizes g (lanesOf g) at → Sizes g (lanesOf g) r
-    → resultFault (at .floats) (at .index) (at .word) v n i s ≡ fine → resultFault (r .floats) (r .index) (r .word) v n i s ≡ fine
-same-fault g at r v n i s a b e =
-    rw (b .floats ∙ sym (a .floats), b .index ∙ sym (a .index), b .word ∙ sym (a .word)) e
-
-pub all-taken : (g : Given) (r : At) (v n : List Float) (i s : List ℕ) → Sizes g (lanesOf g) r
-    → resultFault (r .floats) (r .index) (r .word) (length v) (length n) (length i) (length s) ≡ fine
-    → taken (countsOf (r .floats) (r .index) (r .word)) ≡ resultOf g (length v) (length n) (length i) (length s)
-unfolding resultOf judge meshOf
-all-taken g r v n i s sizes e = rw (← (sizes .floats), ← (sizes .index), ← (sizes .word), e)
-
--- what is put at the front, as an answer leaves it, and what a refusal leaves
-pub put-left : {A B : Type 0} {m m′ xs : List A} {q : ℕ} {counts : B} {answer : Answer B} → taken counts ≡ answer → Put m m′ 0 xs q → length xs ≤ length m
-    → m′ ≡ leaves answer xs m
-unfolding leaves
-put-left {A} {B} {m} {m′} {xs} e p h = rw (← e) (p .memory ∙ sets-front xs m h)
-
-pub stays : {A B : Type 0} (xs : List A) {m : List A} {a b : ℕ} {answer : Answer B} → refused a b ≡ answer → m ≡ leaves answer xs m
-unfolding leaves
-stays xs e = rw (← e)
-
-module _ (g : Given) (v n i s : ℕ) where
-  pub all-refused : (a b : ℕ) → inputFault g ≡ fault a b → refused a b ≡ answerOf g v n i s
+  all-taken : taken (countsOf (lengthsOf (meshOf g))) ≡ answerOf g (meshLists v n i s)
   unfolding answerOf judge
-  all-refused a b e = rw e
+  all-taken = rw e
 
-  pub checked : inputFault g ≡ fine → resultOf g v n i s ≡ answerOf g v n i s
-  unfolding answerOf judge
-  checked e = rw e
+  pub made : (r : At) {v′ n′ : List Float} {i′ s′ : List ℕ} (c : MeshCounts) → c ≡ countsOf (lengthsAt r) → Written g (lanesOf g) r v v′ n n′ i i′ s s′
+      → (readMesh (Made c) ≡ answerOf g (meshLists v n i s)) × (meshLists v′ n′ i′ s′ ≡ leavesMesh (answerOf g (meshLists v n i s)) (meshOf g) (meshLists v n i s))
+  unfolding readMesh meshOf
+  made r c k w =
+      let t : taken c ≡ answerOf g (meshLists v n i s) = ap taken (k ∙ ap countsOf (all-lengths g r (written-sizes g r w))) ∙ all-taken in
+      (t, mesh-left (meshOf g) t (w .vertices) (w .normals) (w .indices) (w .spans) all-fits)
+
+answered : (g : Given) (before : Mesh) (r : Refusal) → callFault g (lengthsOf before) ≡ found (Faulty r) → refused (numberOf r) (placeOf r) ≡ answerOf g before
+unfolding answerOf judge found
+answered g before r e = rw e
+
+-- a call that is
+pub turned-back : (g : Given) (before : Mesh) (r : Refusal) → callFault g (lengthsOf before) ≡ found (Faulty r)
+    → (readMesh (Refused r) ≡ answerOf g before) × (before ≡ leavesMesh (answerOf g before) (meshOf g) before)
+unfolding readMesh
+turned-back g before r e = let t = answered g before r e in (t, mesh-stays (meshOf g) before t)

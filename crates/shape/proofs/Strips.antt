@@ -17,9 +17,9 @@ use Rattle.vector.specs.Coords.{pointAdd, pointSubVector, vectorMul, crossOf, u
 use Rattle.vector.specs.Geometry.{leftNormalOf}
 use Rattle.vector.specs.declared.coords.Point.{Point}
 use Rattle.vector.specs.declared.coords.Vector.{Vector}
-use Rattle.shape.specs.declared.mesh.Leg.{Leg}
-use Rattle.shape.specs.declared.mesh.Rib.{Rib}
-use Rattle.shape.specs.declared.mesh.Spread.{Spread}
+use Rattle.shape.specs.declared.rib.Leg.{Leg}
+use Rattle.shape.specs.declared.rib.Rib.{Rib}
+use Rattle.shape.specs.declared.rib.Spread.{Spread}
 use Rattle.shape.specs.Strip.{Lane, keptPoint, legIn, legOut, alongOf, slopeOf, lateralOf, halfOf, spreadOf, ribAt, triangleOf, segmentOf, noArea, sixOf, upsOf, verticesAt, normalsAt, verticesOf, normalsOf}
 use Rattle.shape.specs.Laws.Gather.{gather-even}
 

@@ -5,15 +5,18 @@ use mathlib.Core.Bool.{Bool, true, false}
 use mathlib.Core.List.{List, [], _∷_}
 use Prim.Native.Nat.{ℕ, _*_}
 use lib.Dec.{eqb}
+use lib.ListN.{replicate}
 use lib.Ieee.{Float, binary64, ofBits, ofFields, odd, sub, mul, add, div, neg, le, lt, isNan, sum, round, units, span, climb, size, toUnsigned}
 use Rattle.rounding.specs.Root as root
 use Rattle.rounding.specs.Whole as whole
 use Rattle.rounding.specs.Extremes as extremes
 use Rattle.vector.specs.Coords as coords
+use Rattle.vector.specs.Single.{0f}
 use Rattle.shape.specs.Double.{0d, 1d}
 use Rattle.shape.specs.Gather.{gather, any, least}
-use Rattle.shape.specs.Lists.{pointAt, longer, uneven}
-use Rattle.shape.specs.Refusal.{Answer, taken, refused, refuse, judge}
+use Rattle.shape.specs.Lists.{pointAt, longer, uneven, meshLists}
+use Rattle.shape.specs.MeshMemory as memory
+use Rattle.shape.specs.Refusal.{Answer, taken, refused, refuse, orElse, judge}
 use Rattle.shape.specs.Elevation.{gridLong, gridRagged}
 use Rattle.shape.specs.Ears as ears
 use Rattle.shape.specs.Ears.{earsOf}
@@ -40,12 +43,12 @@ makes (refused number place) n = false
 
 -- the square's mesh, with room for just so many vertices, normals and indices
 abbrev meshed : JunctionGrid → ℕ → Answer ℕ
-meshed g room = groundAnswer (ground square g [] [] []) (3 * room) (3 * room) room
+meshed g room = groundAnswer (ground square g [] [] []) (meshLists (replicate (3 * room) 0f) (replicate (3 * room) 0f) (replicate room 0) [])
 
 -- "With spacing 4 that ring has 24 vertices, with no grid 6."
 pub junctionCases : List Bool
 junctionCases = makes (meshed (Present grid) 24) 24 ∷ makes (meshed Absent 6) 6 ∷ []
 
 pub junction-cases : all junctionCases ≡ true
-unfolding ofBits ofFields odd sub mul add div neg le lt isNan sum round units span climb size toUnsigned root.sqrtOf root.rootOf whole.wholeOf whole.wholeBy extremes.first extremes.maxOf extremes.clampOf coords.pointSub coords.dotOf coords.lengthSquaredOf coords.lengthOf coords.distanceOf gather any pointAt longer uneven gridLong gridRagged refuse judge ears.cross ears.inside ears.turnsLeft ears.blocks ears.earOf ears.isEar least ears.firstEar ears.earAt ears.without ears.lastEar ears.cutEars ears.upTo earsOf mesh.longestOf mesh.partsOf mesh.earCut mesh.cornersOf mesh.cellOf mesh.rowOf mesh.splitOf mesh.earMesh mesh.earsMesh mesh.groundVertices mesh.meshVertices mesh.groundFault mesh.groundInput mesh.stepOf groundResult groundAnswer grid makes junctionCases all
+unfolding ofBits ofFields odd sub mul add div neg le lt isNan sum round units span climb size toUnsigned root.sqrtOf root.rootOf whole.wholeOf whole.wholeBy extremes.first extremes.maxOf extremes.clampOf coords.pointSub coords.dotOf coords.lengthSquaredOf coords.lengthOf coords.distanceOf gather any pointAt longer uneven gridLong gridRagged refuse orElse judge ears.cross ears.inside ears.turnsLeft ears.blocks ears.earOf ears.isEar least ears.firstEar ears.earAt ears.without ears.lastEar ears.cutEars ears.upTo earsOf mesh.longestOf mesh.partsOf mesh.earCut mesh.cornersOf mesh.cellOf mesh.rowOf mesh.splitOf mesh.earMesh mesh.earsMesh mesh.groundVertices mesh.meshVertices mesh.normalsOf mesh.groundNormals mesh.meshNormals mesh.meshIndices mesh.groundMesh mesh.groundLimits mesh.groundRagged mesh.groundInput memory.resultLimits memory.resultShort memory.roomFault mesh.stepOf groundResult groundAnswer grid makes junctionCases all
 junction-cases = refl

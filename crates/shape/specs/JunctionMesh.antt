@@ -1,6 +1,5 @@
 -- Document 01, "Junction triangles": the ears of a boundary split to the grid's spacing, their triangles with vertices and normals, and the call that makes
 -- the mesh. `lift` brings a point to the grid's height where the grid reaches; `step` is the grid's spacing. Definitions only. Assumes nothing.
-use mathlib.Core.Path.{_≡_}
 use mathlib.Core.Bool.{false, cond}
 use mathlib.Core.List.{List, [], _∷_, _++_}
 use Prim.Native.Nat.{ℕ, zero, suc, _+_, _-_, _*_, _/_}
@@ -15,6 +14,7 @@ use Rattle.vector.specs.Single.{_⊘_, 0f, 1f}
 use Rattle.vector.specs.Coords.{pointSub, pointAdd, vectorMul, crossOf, distanceOf, normalizeOr, upVector}
 use Rattle.vector.specs.declared.coords.Point.{Point}
 use Rattle.vector.specs.declared.coords.Vector.{Vector}
+use Rattle.shape.specs.declared.memory.Lengths.{Lengths}
 use Rattle.shape.specs.declared.junction.Ear.{Ear}
 use Rattle.shape.specs.Gather.{gather}
 use Rattle.shape.specs.declared.junction.JunctionGrid.{JunctionGrid}
@@ -23,8 +23,9 @@ use Rattle.shape.specs.declared.junction.JunctionAnswer.{JunctionAnswer}
 use Rattle.shape.specs.declared.junction.JunctionAnswer.the-variants.{Made, Refused}
 use Rattle.shape.specs.declared.elevation.Spot.{Spot}
 use Rattle.shape.specs.declared.elevation.Spot.the-variants.{Missing, At}
-use Rattle.shape.specs.Refusal.{Fault, fine, refuse, Answer, taken, refused, judge, leaves, numberOf, placeOf}
-use Rattle.shape.specs.Lists.{pointAt, longer, uneven}
+use Rattle.shape.specs.Refusal.{Fault, fine, refuse, orElse, Answer, taken, refused, judge, numberOf, placeOf}
+use Rattle.shape.specs.Lists.{pointAt, longer, uneven, Mesh}
+use Rattle.shape.specs.MeshMemory.{meshRoom}
 use Rattle.shape.specs.Elevation.{gridLong, gridRagged, heightOf, locateOf}
 use Rattle.shape.specs.Ears.{upTo, earsOf}
 
@@ -136,14 +137,9 @@ unfoldable pub vertexCount : Float → List Float → List ℕ → ℕ
 unfolding sumOf
 vertexCount step ring ears = sumOf (verticesOf step ring ears) (length ears / 3)
 
--- the refusals of a result of so many vertices, and as many normals and indices, for outputs of the lengths v, n, i
-unfoldable pub groundFault : ℕ → ℕ → ℕ → ℕ → Fault
-unfolding refuse
-groundFault many v n i =
-    refuse (ltb 65536 many) 1 65536
-    (refuse (ltb v (3 * many)) 3 (3 * many)
-    (refuse (ltb n (3 * many)) 3 (3 * many)
-    (refuse (ltb i many) 3 many fine)))
+-- the lengths of a mesh of so many vertices
+abbrev pub groundLengths : ℕ → Lengths
+groundLengths many = record { vertices = 3 * many; normals = 3 * many; indices = many; spans = 0 }
 
 -- ---- the grid
 
@@ -186,29 +182,29 @@ meshNormals g = groundNormals (lifter g) (stepOf (g .grid)) (g .ring)
 unfoldable pub meshIndices : Ground → List ℕ
 meshIndices g = upTo (length (meshVertices g) / 3)
 
+-- a junction has no spans, and the call is lent none
+unfoldable pub groundMesh : Ground → Mesh
+groundMesh g = record { vertices = meshVertices g; normals = meshNormals g; indices = meshIndices g; spans = [] }
+
 -- the refusals of the input: the ring's limit and the grid's, then the ring not in threes and the grid's rows ragged
+unfoldable pub groundLimits : Ground → Fault
+groundLimits g = refuse (longer 3 1024 (g .ring)) 1 1024 (refuse (gridLong (g .rows)) 1 1024 fine)
+
+unfoldable pub groundRagged : Ground → Fault
+groundRagged g = refuse (uneven 3 (g .ring)) 2 0 (refuse (gridRagged (g .rows) (length (g .left)) (length (g .right))) 2 1 fine)
+
 unfoldable pub groundInput : Ground → Fault
-groundInput g =
-    refuse (longer 3 1024 (g .ring)) 1 1024
-    (refuse (gridLong (g .rows)) 1 1024
-    (refuse (uneven 3 (g .ring)) 2 0
-    (refuse (gridRagged (g .rows) (length (g .left)) (length (g .right))) 2 1 fine)))
+groundInput g = orElse (groundLimits g) (groundRagged g)
 
--- the answer for outputs of the lengths v, n, i: how many vertices, normals and indices
-unfoldable pub groundResult : Ground → ℕ → ℕ → ℕ → Answer ℕ
-groundResult g v n i = let many = length (meshVertices g) / 3 in judge (groundFault many v n i) (taken many)
+-- the answer to a call that is lent the memory `before`: how many vertices, normals and indices. It leaves
+-- `leavesMesh (groundAnswer g before) (groundMesh g) before`.
+unfoldable pub groundResult : Ground → Mesh → Answer ℕ
+groundResult g before = judge (meshRoom (groundMesh g) before) (taken (length (meshVertices g) / 3))
 
-unfoldable pub groundAnswer : Ground → ℕ → ℕ → ℕ → Answer ℕ
-groundAnswer g v n i = judge (groundInput g) (groundResult g v n i)
+unfoldable pub groundAnswer : Ground → Mesh → Answer ℕ
+groundAnswer g before = judge (groundInput g) (groundResult g before)
 
 -- the paper's values of each case
 unfoldable pub readGround : JunctionAnswer → Answer ℕ
 readGround (Made n) = taken n
 readGround (Refused r) = refused (numberOf r) (placeOf r)
-
--- a call that returns r: the answer is a, and each lent slice is as that leaves it
-pub record Meshes (g : Ground) (a : Answer ℕ) (r : JunctionAnswer) (v v′ n n′ : List Float) (i i′ : List ℕ) : Type 0 where
-  pub answer : readGround r ≡ a
-  pub vertices : v′ ≡ leaves a (meshVertices g) v
-  pub normals : n′ ≡ leaves a (meshNormals g) n
-  pub indices : i′ ≡ leaves a (meshIndices g) i

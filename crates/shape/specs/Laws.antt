@@ -3,6 +3,7 @@ pub mod Gather
 pub mod Memory
 pub mod Refusal
 pub mod Lists
+pub mod MeshMemory
 pub mod SurfaceMesh
 pub mod Outline
 pub mod Ears

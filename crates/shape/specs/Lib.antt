@@ -3,6 +3,7 @@ pub mod Gather
 pub mod Memory
 pub mod Refusal
 pub mod Lists
+pub mod MeshMemory
 pub mod Ears
 pub mod EarSteps
 pub mod CaseTests
@@ -13,6 +14,7 @@ pub mod ElevationSteps
 pub mod CasesElevation
 pub mod Strip
 pub mod SurfaceMesh
+pub mod MeshSteps
 pub mod CasesStrips
 pub mod Verdict
 pub mod Outline

@@ -1,12 +1,11 @@
 -- Document 01, "Lane strips": the strip of one lane, from its points to its vertices, normals and indices, in the order of the Rust's roundings.
 -- Definitions only. Assumes nothing.
-use mathlib.Core.Path.{_≡_}
-use mathlib.Core.Bool.{Bool, true, cond, _&&_}
+use mathlib.Core.Bool.{Bool, cond, _&&_}
 use mathlib.Core.List.{List, [], _∷_, _++_}
 use Prim.Native.Nat.{ℕ, zero, suc, _+_, _-_, _*_, _/_, min}
 use lib.Dec.{ltb}
 use lib.ListN.{length, getD}
-use lib.Ieee.{Float, binary32, lt, le, neg}
+use lib.Ieee.{Float, binary32, lt, neg}
 use Rattle.rounding.specs.Root.{sqrtOf}
 use Rattle.rounding.specs.Extremes.{minOf, maxOf, clampOf}
 use Rattle.rounding.specs.Thresholds.{micro, tenth}
@@ -31,10 +30,9 @@ use Rattle.vector.specs.Coords.{
 use Rattle.vector.specs.Geometry.{horizontalOf, leftNormalOf}
 use Rattle.vector.specs.declared.coords.Point.{Point}
 use Rattle.vector.specs.declared.coords.Vector.{Vector}
-use Rattle.shape.specs.declared.mesh.Rib.{Rib}
-use Rattle.shape.specs.declared.mesh.Leg.{Leg}
-use Rattle.shape.specs.declared.mesh.Spread.{Spread}
-use Rattle.shape.specs.declared.mesh.Walk.{Walk}
+use Rattle.shape.specs.declared.rib.Rib.{Rib}
+use Rattle.shape.specs.declared.rib.Leg.{Leg}
+use Rattle.shape.specs.declared.rib.Spread.{Spread}
 use Rattle.shape.specs.Gather.{gather}
 use Rattle.shape.specs.Lists.{pointAt, vectorAt}
 
@@ -173,13 +171,6 @@ pinches inc out = lt tiny (eatOf (inc .way) (out .way)) && lt micro (shorterOf i
 unfoldable pub innerOf : Leg → Leg → Float → Float
 innerOf inc out h = minOf h (most ⊗ shorterOf inc out ⊘ eatOf (inc .way) (out .way))
 
--- a corner at which nothing is pinched: the sine of half the turn is at most 1/16, both legs are at least 1, and h at most 7
-pub record Mild (eats inc out h : Float) : Type 0 where
-  pub turn : le eats (single 0x3b80_0000) ≡ true
-  pub into : le 1f inc ≡ true
-  pub away : le 1f out ≡ true
-  pub narrow : le h (single 0x40e0_0000) ≡ true
-
 unfoldable pub turnsLeft : Vector → Vector → Vector → Bool
 turnsLeft inc out left = lt 0f (dotOf (vectorSub out inc) left)
 
@@ -208,10 +199,6 @@ ribAt l ks i =
       right = pointSubVector p (vectorMul across (m .right));
       up = normalizeOr (crossOf slope across) upVector;
     }
-
--- the rib with the leg out of its point
-unfoldable pub walkAt : Lane → List ℕ → ℕ → Walk
-walkAt l ks i = record { rib = ribAt l ks i; out = legOut (l .points) ks i }
 
 -- ---- the strip, over the kept points ks
 

@@ -5,9 +5,10 @@ ghost use mathlib.Core.List.{[], _∷_};
 ghost use Prim.Native.Nat.{ℕ, _+_, _-_, _*_, _/_, _^_, _≤_, _<_};
 ghost use lib.ListN.{length};
 ghost use Rattle.shape.specs.Memory.{Put};
-ghost use Rattle.shape.specs.Refusal.{found};
+ghost use Rattle.shape.specs.Lists.{meshLists};
+ghost use Rattle.shape.specs.MeshMemory.{leavesMesh};
 ghost use Rattle.shape.specs.EarSteps.{Within};
-ghost use Rattle.shape.specs.JunctionMesh.{longestOf, partsOf, earCut, count, lattice, faceOf, cornersOf, thrice, normalsOf, vertexCount, groundFault, stepOf, stood, liftOf, rowOf, earMesh, earsMesh, ground, groundResult, groundAnswer, Meshes};
+ghost use Rattle.shape.specs.JunctionMesh.{longestOf, partsOf, earCut, count, lattice, faceOf, cornersOf, thrice, normalsOf, vertexCount, stepOf, stood, liftOf, rowOf, earMesh, earsMesh, ground, groundLengths, groundMesh, groundResult, groundAnswer, readGround};
 ghost use Rattle.shape.specs.ElevationSteps.{Limits};
 use crate::ears::clip;
 use crate::ears::count_up;
@@ -18,6 +19,8 @@ use crate::elevation::Spot;
 use crate::elevation::height_in;
 use crate::elevation::locate;
 use crate::elevation::survey;
+use crate::memory::Lengths;
+use crate::memory::room_fault;
 use crate::refusal::Check;
 use crate::refusal::Refusal;
 use rounding::bits::wide;
@@ -176,24 +179,18 @@ fn count_vertices(ring: &[f32], ears: &[u32], step: f64) -> usize
     total
 }
 
-// Why a result of so many vertices is turned back, if it is.
-fn result_fault(many: usize, vertices: usize, normals: usize, indices: usize) -> Check
+// The lengths of a mesh of so many vertices. Each triangle has its own, so that there are as many indices;
+// a junction has no spans.
+fn ground_lengths(many: usize) -> Lengths
     requires { ⌜ many ≤ 12288 * 1024 ⌝ }
-    ensures { λ r. ⌜ found r ≡ groundFault many vertices normals indices ⌝ }
+    ensures { λ r. ⌜ r ≡ groundLengths many ⌝ }
 {
-    if 65536 < many {
-        return Check::Faulty(Refusal::Oversize(65536));
+    Lengths {
+        vertices: 3 * many,
+        normals: 3 * many,
+        indices: many,
+        spans: 0,
     }
-    if vertices < 3 * many {
-        return Check::Faulty(Refusal::ShortOutput(3 * many));
-    }
-    if normals < 3 * many {
-        return Check::Faulty(Refusal::ShortOutput(3 * many));
-    }
-    if indices < many {
-        return Check::Faulty(Refusal::ShortOutput(many));
-    }
-    Check::Fine
 }
 
 // ---- the grid
@@ -323,7 +320,9 @@ fn put_ears(
     vertices: &mut [f32],
     normals: &mut [f32],
 ) -> usize
-    requires { ⌜ Limits (now rows) most ⌝ ∗ ⌜ Within (length (now ring) / 3) (now ears) ⌝ ∗ ⌜ (length (now ears) ≤ 3072) × (3 * vertexCount (stepOf grid) (now ring) (now ears) ≤ length (now vertices)) × (3 * vertexCount (stepOf grid) (now ring) (now ears) ≤ length (now normals)) ⌝ }
+    requires { let many = vertexCount (stepOf grid) (now ring) (now ears) in
+        ⌜ Limits (now rows) most ⌝ ∗ ⌜ Within (length (now ring) / 3) (now ears) ⌝
+        ∗ ⌜ (length (now ears) ≤ 3072) × (3 * many ≤ length (now vertices)) × (3 * many ≤ length (now normals)) ⌝ }
     ensures { λ r. ⌜ Put (now (vertices .entry)) (now (vertices .exit)) 0 (earsMesh cornersOf (liftOf grid (now (rows .entry)) (now (left .entry)) (now (right .entry))) (stepOf grid) (now (ring .entry)) (now (ears .entry))) r ⌝ }
     ensures { λ r. ⌜ Put (now (normals .entry)) (now (normals .exit)) 0 (earsMesh normalsOf (liftOf grid (now (rows .entry)) (now (left .entry)) (now (right .entry))) (stepOf grid) (now (ring .entry)) (now (ears .entry))) r ⌝ }
 {
@@ -351,13 +350,27 @@ fn mesh_checked(
     indices: &mut [u32],
 ) -> JunctionAnswer
     requires { ⌜ Limits (now rows) most ⌝ ∗ ⌜ length (now ring) ≤ 3 * 1024 ⌝ }
-    ensures { λ r. ⌜ Meshes (ground (now (ring .entry)) grid (now (rows .entry)) (now (left .entry)) (now (right .entry))) (groundResult (ground (now (ring .entry)) grid (now (rows .entry)) (now (left .entry)) (now (right .entry))) (length (now (vertices .entry))) (length (now (normals .entry))) (length (now (indices .entry)))) r (now (vertices .entry)) (now (vertices .exit)) (now (normals .entry)) (now (normals .exit)) (now (indices .entry)) (now (indices .exit)) ⌝ }
+    ensures { λ r.
+        let g = ground (now (ring .entry)) grid (now (rows .entry)) (now (left .entry)) (now (right .entry)) in
+        let before = meshLists (now (vertices .entry)) (now (normals .entry)) (now (indices .entry)) [] in
+        ⌜ readGround r ≡ groundResult g before ⌝ }
+    ensures { λ _.
+        let g = ground (now (ring .entry)) grid (now (rows .entry)) (now (left .entry)) (now (right .entry)) in
+        let before = meshLists (now (vertices .entry)) (now (normals .entry)) (now (indices .entry)) [] in
+        let after = meshLists (now (vertices .exit)) (now (normals .exit)) (now (indices .exit)) [] in
+        ⌜ after ≡ leavesMesh (groundResult g before) (groundMesh g) before ⌝ }
 {
     let mut memory = [0u32; 3072];
     let m = clip(ring, &mut memory);
     let ears = &memory[..m];
     let many = count_vertices(ring, ears, step_of(grid));
-    let f = result_fault(many, vertices.len(), normals.len(), indices.len());
+    let lent = Lengths {
+        vertices: vertices.len(),
+        normals: normals.len(),
+        indices: indices.len(),
+        spans: 0,
+    };
+    let f = room_fault(ground_lengths(many), lent);
     match f {
         Check::Faulty(r) => JunctionAnswer::Refused(r),
         Check::Fine => {
@@ -379,7 +392,15 @@ pub fn mesh(
     normals: &mut [f32],
     indices: &mut [u32],
 ) -> JunctionAnswer
-    ensures { λ r. ⌜ Meshes (ground (now (ring .entry)) grid (now (rows .entry)) (now (left .entry)) (now (right .entry))) (groundAnswer (ground (now (ring .entry)) grid (now (rows .entry)) (now (left .entry)) (now (right .entry))) (length (now (vertices .entry))) (length (now (normals .entry))) (length (now (indices .entry)))) r (now (vertices .entry)) (now (vertices .exit)) (now (normals .entry)) (now (normals .exit)) (now (indices .entry)) (now (indices .exit)) ⌝ }
+    ensures { λ r.
+        let g = ground (now (ring .entry)) grid (now (rows .entry)) (now (left .entry)) (now (right .entry)) in
+        let before = meshLists (now (vertices .entry)) (now (normals .entry)) (now (indices .entry)) [] in
+        ⌜ readGround r ≡ groundAnswer g before ⌝ }
+    ensures { λ _.
+        let g = ground (now (ring .entry)) grid (now (rows .entry)) (now (left .entry)) (now (right .entry)) in
+        let before = meshLists (now (vertices .entry)) (now (normals .entry)) (now (indices .entry)) [] in
+        let after = meshLists (now (vertices .exit)) (now (normals .exit)) (now (indices .exit)) [] in
+        ⌜ after ≡ leavesMesh (groundAnswer g before) (groundMesh g) before ⌝ }
 {
     if 3 * 1024 < ring.len() {
         return JunctionAnswer::Refused(Refusal::Oversize(1024));

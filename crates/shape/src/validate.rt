@@ -10,9 +10,9 @@ ghost use Rattle.shape.specs.Verdict.{FiniteBelow, unsound, findingOf, f
 use crate::lists::mesh_fault;
 use crate::lists::point_at;
 use crate::lists::word_at;
-use crate::mesh::no_area;
 use crate::refusal::Check;
 use crate::refusal::Refusal;
+use crate::strip::no_area;
 use rounding::bits::wide;
 use rounding::extremes::is_finite32;
 use vector::coords::Point;

@@ -1,5 +1,5 @@
 -- Laws about the triangles of a junction: how many there are, and how they are put one after another. Assumes nothing.
-use mathlib.Core.Path.{_≡_, refl, sym, ap, _∙_}
+use mathlib.Core.Path.{_≡_, refl, sym, ap, _∙_, subst}
 use mathlib.Core.Bool.{Bool, true, false, cond}
 use mathlib.Core.List.{List, [], _∷_, _++_, append-nil}
 use Prim.Native.Nat.{ℕ, zero, suc, _+_, _-_, _*_, _/_, _%_, _<_, _≤_}
@@ -21,16 +21,21 @@ use Rattle.vector.specs.declared.coords.Point.{Point}
 use Rattle.vector.specs.declared.coords.Vector.{Vector}
 use Rattle.shape.specs.declared.junction.Ear.{Ear}
 use Rattle.shape.specs.Gather.{gather}
-use Rattle.shape.specs.Lists.{pointAt, longer, uneven}
+use Rattle.shape.specs.Lists.{pointAt, longer, uneven, Mesh, meshLists}
+use Rattle.shape.specs.MeshMemory.{lengthsOf, roomFault, leavesMesh}
 use Rattle.shape.specs.Elevation.{gridLong, gridRagged}
-use Rattle.shape.specs.JunctionMesh.{1d, 64d, longestOf, partsOf, faceOf, cornersOf, normalsOf, earCut, lattice, cellOf, rowOf, splitOf, earMesh, earsMesh, sumOf, verticesOf, vertexCount, groundFault, groundVertices, groundNormals, stepOf, Ground, lifter, meshVertices, meshNormals, meshIndices, groundInput, groundResult, groundAnswer, readGround, Meshes}
+use Rattle.shape.specs.JunctionMesh.{1d, 64d, longestOf, partsOf, faceOf, cornersOf, normalsOf, earCut, lattice, cellOf, rowOf, splitOf, earMesh, earsMesh, sumOf, verticesOf, vertexCount, groundVertices, groundNormals, stepOf, Ground, lifter, meshVertices, meshNormals, meshIndices, groundLengths, groundMesh, groundLimits, groundRagged, groundInput, groundResult, groundAnswer, readGround}
 use Rattle.shape.specs.Memory.{Put}
-use Rattle.shape.specs.Refusal.{fine, fault, refuse, Answer, taken, refused, judge, numberOf, placeOf}
+use Rattle.shape.specs.Refusal.{fine, found, refuse, orElse, Answer, taken, refused, judge, numberOf, placeOf}
 use Rattle.shape.specs.declared.refusal.Refusal.{Refusal}
+use Rattle.shape.specs.declared.refusal.Check.{Check}
+use Rattle.shape.specs.declared.refusal.Check.the-variants.{Fine, Faulty}
+use Rattle.shape.specs.declared.memory.Lengths.{Lengths}
 use Rattle.shape.specs.declared.junction.JunctionAnswer.the-variants.{Made, Refused}
 use Rattle.shape.specs.Ears.{upTo, earsOf}
-use Rattle.shape.specs.Laws.Ears.{fills, stays, up-to-length}
-use Rattle.shape.specs.Laws.Memory.{put-then, put-turn, sets-front}
+use Rattle.shape.specs.Laws.Ears.{up-to-length}
+use Rattle.shape.specs.Laws.Memory.{put-none, put-then, put-turn}
+use Rattle.shape.specs.Laws.MeshMemory.{Fits, room-fits, or-refuse, mesh-left, mesh-stays, groundFault, ground-room}
 
 -- ---- parts
 
@@ -197,29 +202,6 @@ ears-mesh-length : (f : Point → Point → Point → List Float) → ((a b c : 
 unfolding earsMesh vertexCount
 ears-mesh-length f nine lift step ring ears = ears-length f nine lift step ring ears (length ears / 3)
 
--- what is put from the front is the result, and then what was there
-put-whole : {A : Type 0} {m₀ m xs : List A} {n : ℕ} → Put m₀ m 0 xs n → length xs ≤ length m₀ → m ≡ xs ++ drop (length xs) m₀
-put-whole {A} {m₀} {m} {xs} p h = p .memory ∙ sets-front xs m₀ h
-
-module _ (many v n i : ℕ) where
-  pub record Room : Type 0 where
-    pub limit : many ≤ 65536
-    pub vertices : 3 * many ≤ v
-    pub normals : 3 * many ≤ n
-    pub indices : many ≤ i
-
-  pub ground-room : groundFault many v n i ≡ fine → Room
-  unfolding groundFault refuse
-  ground-room = go (ltb 65536 many) (ltb-false 65536 many) (ltb v (3 * many)) (ltb-false v (3 * many)) (ltb n (3 * many)) (ltb-false n (3 * many)) (ltb i many) (ltb-false i many)
-    where
-      go : (a : Bool) → (a ≡ false → many ≤ 65536) → (b : Bool) → (b ≡ false → 3 * many ≤ v) → (c : Bool) → (c ≡ false → 3 * many ≤ n) → (d : Bool) → (d ≡ false → many ≤ i)
-          → cond a (fault 1 65536) (cond b (fault 3 (3 * many)) (cond c (fault 3 (3 * many)) (cond d (fault 3 many) fine))) ≡ fine → Room
-      go true p b q c r d s e = absurd (let z : _≡_ {A = ℕ} 0 1 = cc in omega arith)
-      go false p true q c r d s e = absurd (let z : _≡_ {A = ℕ} 0 1 = cc in omega arith)
-      go false p false q true r d s e = absurd (let z : _≡_ {A = ℕ} 0 1 = cc in omega arith)
-      go false p false q false r true s e = absurd (let z : _≡_ {A = ℕ} 0 1 = cc in omega arith)
-      go false p false q false r false s e = record { limit = p refl; vertices = q refl; normals = r refl; indices = s refl }
-
 module _ (g : Ground) where
   abbrev pub manyOf : ℕ
   manyOf = vertexCount (stepOf (g .grid)) (g .ring) (earsOf (g .ring))
@@ -235,56 +217,88 @@ module _ (g : Ground) where
   pub many-is : length (meshVertices g) / 3 ≡ manyOf
   many-is = omega (arith, vertices-long)
 
-  module _ (v n i : ℕ) where
-    pub ground-refused : (number place : ℕ) → fault number place ≡ groundFault manyOf v n i → refused number place ≡ groundResult g v n i
-    unfolding groundResult judge
-    ground-refused number place e = rw (many-is, ← e)
+  indices-long : length (meshIndices g) ≡ manyOf
+  unfolding meshIndices
+  indices-long = up-to-length (length (meshVertices g) / 3) ∙ many-is
 
-    pub ground-taken : fine ≡ groundFault manyOf v n i → taken manyOf ≡ groundResult g v n i
-    unfolding groundResult judge
-    ground-taken e = rw (many-is, ← e)
+  -- the lengths of the result
+  pub ground-lengths : groundLengths manyOf ≡ lengthsOf (groundMesh g)
+  unfolding groundMesh
+  ground-lengths = rw (vertices-long, normals-long, indices-long)
 
-  -- all three outputs as a call that is taken leaves them
-  pub ground-left : (v v′ n n′ : List Float) (i i′ : List ℕ) {a : Answer ℕ} {r s : ℕ} → taken manyOf ≡ a → Room manyOf (length v) (length n) (length i)
+  module _ (before : Mesh) where
+    -- what the check of so many vertices tells
+    module _ (k : Check) (l : Lengths) (m : ℕ) (em : m ≡ manyOf) (el : l ≡ groundLengths m) (ek : found k ≡ roomFault l (lengthsOf before)) where
+      told : found k ≡ roomFault (groundLengths manyOf) (lengthsOf before)
+      told = ek ∙ ap (λ (x : Lengths). roomFault x (lengthsOf before)) (el ∙ ap (λ (x : ℕ). groundLengths x) em)
+
+      pub ground-refused : {r : Refusal} → k ≡ Faulty r → refused (numberOf r) (placeOf r) ≡ groundResult g before
+      unfolding groundResult judge found
+      ground-refused h = rw (← ground-lengths, ← told, h)
+
+      pub ground-taken : k ≡ Fine → taken manyOf ≡ groundResult g before
+      unfolding groundResult judge found
+      ground-taken h = rw (← ground-lengths, ← told, h, many-is)
+
+      pub ground-fits : k ≡ Fine → Fits (groundLengths manyOf) (lengthsOf before)
+      unfolding found
+      ground-fits h = room-fits (groundLengths manyOf) (lengthsOf before) (sym told ∙ ap found h)
+
+  -- all outputs as a call that is taken leaves them
+  pub ground-left : (v v′ n n′ : List Float) (i i′ : List ℕ) {a : Answer ℕ} {r s : ℕ} → taken manyOf ≡ a
+      → Fits (groundLengths manyOf) (lengthsOf (meshLists v n i []))
       → Put v v′ 0 (earsMesh cornersOf (lifter g) (stepOf (g .grid)) (g .ring) (earsOf (g .ring))) r
       → Put n n′ 0 (earsMesh normalsOf (lifter g) (stepOf (g .grid)) (g .ring) (earsOf (g .ring))) s
       → Put i i′ 0 (upTo manyOf) manyOf
-      → Meshes g a (Made manyOf) v v′ n n′ i i′
-  unfolding readGround meshVertices meshNormals meshIndices groundVertices groundNormals
-  ground-left v v′ n n′ i i′ t room pv pn pi =
-      let li : length (upTo manyOf) ≤ length i = omega (arith, up-to-length manyOf, room .indices) in
-      record {
-        answer = t;
-        vertices = fills (meshVertices g) v v′ t (put-whole pv (omega (arith, vertices-long, room .vertices)));
-        normals = fills (meshNormals g) n n′ t (put-whole pn (omega (arith, normals-long, room .normals)));
-        indices = fills (meshIndices g) i i′ t (rw many-is (put-whole pi li));
-      }
+      → (readGround (Made manyOf) ≡ a) × (meshLists v′ n′ i′ [] ≡ leavesMesh a (groundMesh g) (meshLists v n i []))
+  unfolding readGround groundMesh meshVertices meshNormals meshIndices groundVertices groundNormals
+  ground-left v v′ n n′ i i′ t fits pv pn pi =
+      let pj : Put i i′ 0 (upTo (length (meshVertices g) / 3)) manyOf = rw many-is pi in
+      let f : Fits (lengthsOf (groundMesh g)) (lengthsOf (meshLists v n i [])) = subst (λ (l : Lengths). Fits l (lengthsOf (meshLists v n i []))) ground-lengths fits in
+      (t, mesh-left (groundMesh g) t pv pn pj (put-none [] 0) f)
 
   -- and as a refusal does
-  pub ground-stays : (v n : List Float) (i : List ℕ) {a : Answer ℕ} (r : Refusal) → refused (numberOf r) (placeOf r) ≡ a → Meshes g a (Refused r) v v n n i i
+  pub ground-stays : (before : Mesh) {a : Answer ℕ} (r : Refusal) → refused (numberOf r) (placeOf r) ≡ a
+      → (readGround (Refused r) ≡ a) × (before ≡ leavesMesh a (groundMesh g) before)
   unfolding readGround
-  ground-stays v n i r t = record { answer = t; vertices = stays (meshVertices g) v t; normals = stays (meshNormals g) n t; indices = stays (meshIndices g) i t }
+  ground-stays before r t = (t, mesh-stays (groundMesh g) before t)
 
-  module _ (v n i : ℕ) where
-    pub ring-long : 3 * 1024 < length (g .ring) → refused 1 1024 ≡ groundAnswer g v n i
-    unfolding groundAnswer groundInput judge refuse longer
+  module _ (before : Mesh) where
+    pub ring-long : 3 * 1024 < length (g .ring) → refused 1 1024 ≡ groundAnswer g before
+    unfolding groundAnswer groundInput groundLimits groundRagged orElse judge refuse longer
     ring-long h = rw (lt-ltb (3 * 1024) (length (g .ring)) h)
 
     module _ (fits : length (g .ring) ≤ 3 * 1024) where
-      pub grid-long : gridLong (g .rows) ≡ true → refused 1 1024 ≡ groundAnswer g v n i
-      unfolding groundAnswer groundInput judge refuse longer
+      pub grid-long : gridLong (g .rows) ≡ true → refused 1 1024 ≡ groundAnswer g before
+      unfolding groundAnswer groundInput groundLimits groundRagged orElse judge refuse longer
       grid-long e = rw (le-ltb (3 * 1024) (length (g .ring)) fits, e)
 
       module _ (short : gridLong (g .rows) ≡ false) where
-        pub ring-uneven : (length (g .ring) % 3 ≡ 0 → ⊥) → refused 2 0 ≡ groundAnswer g v n i
-        unfolding groundAnswer groundInput judge refuse longer uneven
+        pub ring-uneven : (length (g .ring) % 3 ≡ 0 → ⊥) → refused 2 0 ≡ groundAnswer g before
+        unfolding groundAnswer groundInput groundLimits groundRagged orElse judge refuse longer uneven
         ring-uneven h = rw (le-ltb (3 * 1024) (length (g .ring)) fits, short, ne-eqb (length (g .ring) % 3) 0 h)
 
         module _ (even : length (g .ring) % 3 ≡ 0) where
-          pub grid-ragged : gridRagged (g .rows) (length (g .left)) (length (g .right)) ≡ true → refused 2 1 ≡ groundAnswer g v n i
-          unfolding groundAnswer groundInput judge refuse longer uneven
+          pub grid-ragged : gridRagged (g .rows) (length (g .left)) (length (g .right)) ≡ true → refused 2 1 ≡ groundAnswer g before
+          unfolding groundAnswer groundInput groundLimits groundRagged orElse judge refuse longer uneven
           grid-ragged e = rw (le-ltb (3 * 1024) (length (g .ring)) fits, short, eq-eqb (length (g .ring) % 3) 0 even, e)
 
-          pub ground-checked : gridRagged (g .rows) (length (g .left)) (length (g .right)) ≡ false → groundResult g v n i ≡ groundAnswer g v n i
-          unfolding groundAnswer groundInput judge refuse longer uneven
+          pub ground-checked : gridRagged (g .rows) (length (g .left)) (length (g .right)) ≡ false → groundResult g before ≡ groundAnswer g before
+          unfolding groundAnswer groundInput groundLimits groundRagged orElse judge refuse longer uneven
           ground-checked e = rw (le-ltb (3 * 1024) (length (g .ring)) fits, short, eq-eqb (length (g .ring) % 3) 0 even, e)
+
+  -- ---- the refusals and the answer, written out
+
+  pub ground-input-written-out : groundInput g
+      ≡ refuse (longer 3 1024 (g .ring)) 1 1024
+      (refuse (gridLong (g .rows)) 1 1024
+      (refuse (uneven 3 (g .ring)) 2 0
+      (refuse (gridRagged (g .rows) (length (g .left)) (length (g .right))) 2 1 fine)))
+  unfolding groundInput groundLimits groundRagged orElse
+  ground-input-written-out = rw (or-refuse, or-refuse)
+
+  pub ground-answer-written-out : (v n : List Float) (i : List ℕ)
+      → groundAnswer g (meshLists v n i [])
+      ≡ (let many = length (meshVertices g) / 3 in judge (groundInput g) (judge (groundFault many (length v) (length n) (length i)) (taken many)))
+  unfolding groundAnswer groundResult
+  ground-answer-written-out v n i = rw (← ground-lengths, many-is, ground-room)

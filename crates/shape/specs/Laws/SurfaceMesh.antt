@@ -8,12 +8,19 @@ use native.Mathlib.Nat.{mul-add}
 use native.Mathlib.Numerals.{add-one}
 use native.Mathlib.Omega.{arith}
 use lib.ListN.{length, getD, length-append}
-use Rattle.shape.specs.declared.mesh.Rib.{Rib}
-use Rattle.shape.specs.Gather.{gather}
-use Rattle.shape.specs.Lists.{wordOf}
+use Rattle.shape.specs.declared.rib.Rib.{Rib}
+use Rattle.shape.specs.Gather.{gather, any}
+use Rattle.shape.specs.Refusal.{Fault, fine, fault, refuse, orElse, Answer, taken, judge}
+use Rattle.shape.specs.Lists.{wordOf, longer, uneven, runBad, runLong, Mesh}
 use Rattle.shape.specs.Strip.{Lane, kept, noArea, sixOf, upsOf, triangleOf, segmentOf, verticesAt, normalsAt, indicesAt, verticesOf, normalsOf, indicesOf}
-use Rattle.shape.specs.SurfaceMesh.{Given, lanesOf, laneAt, laneVertices, laneNormals, laneIndices, laneSpan, spanOf, baseOf, indexOf, meshOf}
+use Rattle.shape.specs.SurfaceMesh.{Given, lanesOf, laneAt, laneVertices, laneNormals, laneIndices, laneSpan, spanOf, baseOf, indexOf, meshOf, laneLimits, runsRagged, laneRagged, inputFault, countsOf, callFault, answerOf}
+use Rattle.shape.specs.Laws.MeshMemory.{or-refuse, resultFault, strips-room}
 use Rattle.shape.specs.Laws.Gather.{gather-next, gather-fits, gather-even, gather-same, gather-at, Owner, gather-owner, Multiple, gather-multiple}
+
+judge-or : {A : Type 0} (a b : Fault) (x : Answer A) → judge (orElse a b) x ≡ judge a (judge b x)
+unfolding orElse judge
+judge-or fine b x = refl
+judge-or (fault n p) b x = refl
 
 -- ---- spans
 
@@ -204,3 +211,36 @@ module _ (g : Given) where
   pub normals-match : length (meshOf g .normals) ≡ length (meshOf g .vertices)
   unfolding meshOf
   normals-match = gather-same (laneNormals g) (laneVertices g) (λ k. normals-count g k ∙ sym (vertices-count g k)) (lanesOf g)
+
+  -- ---- the refusals and the answer, written out
+
+  pub input-written-out : inputFault g
+      ≡ (let n : ℕ = lanesOf g in
+      refuse (any (runLong 10 1 (g .lanes) 4096) n) 1 4096
+      (refuse (any (runLong 10 3 (g .lanes) 4096) n) 1 4096
+      (refuse (any (runLong 10 5 (g .lanes) 4096) n) 1 4096
+      (refuse (any (runLong 10 7 (g .lanes) 4096) n) 1 4096
+      (refuse (longer 10 1024 (g .lanes)) 1 1024
+      (refuse (uneven 3 (g .points)) 2 0
+      (refuse (uneven 3 (g .tangents)) 2 1
+      (refuse (uneven 2 (g .banks)) 2 3
+      (refuse (uneven 10 (g .lanes)) 2 4
+      (refuse (any (runBad 10 1 (g .lanes) (length (g .points) / 3)) n) 2 4
+      (refuse (any (runBad 10 3 (g .lanes) (length (g .tangents) / 3)) n) 2 4
+      (refuse (any (runBad 10 5 (g .lanes) (length (g .widths))) n) 2 4
+      (refuse (any (runBad 10 7 (g .lanes) (length (g .banks) / 2)) n) 2 4 fine)))))))))))))
+  unfolding inputFault laneLimits laneRagged runsRagged orElse
+  input-written-out = rw (or-refuse, or-refuse, or-refuse, or-refuse, or-refuse)
+
+  pub answer-written-out : (before : Mesh)
+      → answerOf g before
+      ≡ (let m : Mesh = meshOf g in
+      let v : ℕ = length (m .vertices) in
+      let i : ℕ = length (m .indices) in
+      let s : ℕ = length (m .spans) in
+      judge (inputFault g)
+      (judge (resultFault v i s (length (before .vertices)) (length (before .normals)) (length (before .indices)) (length (before .spans)))
+      (taken (record { vertices = v / 3; normals = v / 3; indices = i; spans = s / 5 }))))
+  unfolding answerOf callFault countsOf
+  answer-written-out before =
+      judge-or (inputFault g) _ _ ∙ rw (normals-match, strips-room)

@@ -1,16 +1,17 @@
 -- `shape::junction::mesh_checked` meets its contract: the counts decide, and then all is put. Assumes nothing.
-use mathlib.Core.Path.{_≡_, sym, ap, _∙_}
+use mathlib.Core.Path.{_≡_, sym}
+use mathlib.Core.List.{[]}
 use Prim.Native.Nat.{ℕ}
 use native.Mathlib.Omega.{arith}
 use denote.Ref.{now}
-use lib.ListN.{length, take, length-replicate}
+use lib.ListN.{take, length-replicate}
 use lib.Seq.{length-take-le}
-use Rattle.shape.specs.Refusal.{found}
+use Rattle.shape.specs.Lists.{meshLists}
 use Rattle.shape.specs.Ears.{earsOf}
 use Rattle.shape.specs.JunctionMesh.{ground}
 use Rattle.shape.specs.Laws.Memory.{put-front, put-length}
 use Rattle.shape.specs.Laws.Ears.{ears-few, ears-within}
-use Rattle.shape.specs.Laws.JunctionMesh.{manyOf, ground-room, ground-refused, ground-taken, ground-left, ground-stays}
+use Rattle.shape.specs.Laws.JunctionMesh.{manyOf, ground-refused, ground-taken, ground-fits, ground-left, ground-stays}
 use borrow.Author.Needs.{needs}
 use Rattle.shape.proofs.junction.mesh_checked.Statement.{statement}
 use Rattle.shape.proofs.junction.mesh_checked.Tie as tie
@@ -33,8 +34,11 @@ step-of-requires c κs = search needs
 count-vertices-requires : tie.Need-count-vertices-requires
 count-vertices-requires c κs = let a = c .before .before .before .before .before .before .before .before .before .before .before .before .args in let ring = now (a .ring) in let p = c .before .before .before .clip .ensures in let few = ears-few ring (c .before .before .before .before .before .before .before .before .before .before .before .before .pre .1) in let e : take (c .before .before .before .clip .result) (c .before .before .before .clip .last .1 .0) ≡ earsOf ring = put-front p (omega (arith, p .ends, few, length-replicate {A = ℕ} 3072 0)) in rw e (omega (arith, few), ears-within ring)
 
-result-fault-requires : tie.Need-result-fault-requires
-result-fault-requires c κs = search needs
+ground-lengths-requires : tie.Need-ground-lengths-requires
+ground-lengths-requires c κs = search needs
+
+room-fault-requires : tie.Need-room-fault-requires
+room-fault-requires c κs = search needs
 
 enum-known-f : tie.Need-enum-known-f
 enum-known-f c = search needs
@@ -43,16 +47,62 @@ enum-told : tie.Need-enum-told
 enum-told c = search needs
 
 put-ears-requires : tie.Need-put-ears-requires
-unfolding found
-put-ears-requires c κs = let a = c .before .before .before .before .before .before .before .before .before .before .before .before .before .before .before .before .before .before .args in let ring = now (a .ring) in let p = c .before .before .before .before .before .before .before .before .before .clip .ensures in let few = ears-few ring (c .before .before .before .before .before .before .before .before .before .before .before .before .before .before .before .before .before .before .pre .1) in let e : take (c .before .before .before .before .before .before .before .before .before .clip .result) (c .before .before .before .before .before .before .before .before .before .clip .last .1 .0) ≡ earsOf ring = put-front p (omega (arith, p .ends, few, length-replicate {A = ℕ} 3072 0)) in let g = ground ring (a .grid) (now (a .rows)) (now (a .left)) (now (a .right)) in let k : c .before .before .before .before .before .count-vertices .result ≡ manyOf g = rw (c .before .before .before .before .before .before .step-of .ensures, e) at (c .before .before .before .before .before .count-vertices .ensures .0) in let room = ground-room (manyOf g) (length (now (a .vertices))) (length (now (a .normals))) (length (now (a .indices))) (rw k at (sym (c .before .before .before .before .result-fault .ensures) ∙ ap found (c .before .before .enum-told .given .1))) in rw e (c .before .before .before .before .before .before .before .before .before .before .before .before .before .before .before .before .before .before .pre .0, (ears-within ring, omega (arith, few, room .vertices, room .normals)))
+put-ears-requires c κs =
+    let told = c .before .before in
+    let room = told .before .before in
+    let lengths = room .before in
+    let many = lengths .before in
+    let step = many .before in
+    let clip = step .before .before .before in
+    let start = clip .before .before .before .before .before .before .before .before .before in
+    let a = start .args in
+    let ring = now (a .ring) in
+    let p = clip .clip .ensures in
+    let few = ears-few ring (start .pre .1) in
+    let e : take (clip .clip .result) (clip .clip .last .1 .0) ≡ earsOf ring = put-front p (omega (arith, p .ends, few, length-replicate {A = ℕ} 3072 0)) in
+    let g = ground ring (a .grid) (now (a .rows)) (now (a .left)) (now (a .right)) in
+    let m = meshLists (now (a .vertices)) (now (a .normals)) (now (a .indices)) [] in
+    let k : many .count-vertices .result ≡ manyOf g = rw (step .step-of .ensures, e) at (many .count-vertices .ensures .0) in
+    let f = ground-fits g m _ _ _ k (lengths .ground-lengths .ensures) (room .room-fault .ensures) (told .enum-told .given .1) in
+    rw e (start .pre .0, (ears-within ring, omega (arith, few, f .vertices, f .normals)))
 
 count-up-requires : tie.Need-count-up-requires
-unfolding found
-count-up-requires c κs = let a = c .before .before .before .before .before .before .before .before .before .before .before .before .before .before .before .before .before .before .before .before .before .before .before .before .args in let ring = now (a .ring) in let p = c .before .before .before .before .before .before .before .before .before .before .before .before .before .before .before .clip .ensures in let few = ears-few ring (c .before .before .before .before .before .before .before .before .before .before .before .before .before .before .before .before .before .before .before .before .before .before .before .before .pre .1) in let e : take (c .before .before .before .before .before .before .before .before .before .before .before .before .before .before .before .clip .result) (c .before .before .before .before .before .before .before .before .before .before .before .before .before .before .before .clip .last .1 .0) ≡ earsOf ring = put-front p (omega (arith, p .ends, few, length-replicate {A = ℕ} 3072 0)) in let g = ground ring (a .grid) (now (a .rows)) (now (a .left)) (now (a .right)) in let k : c .before .before .before .before .before .before .before .before .before .before .before .count-vertices .result ≡ manyOf g = rw (c .before .before .before .before .before .before .before .before .before .before .before .before .step-of .ensures, e) at (c .before .before .before .before .before .before .before .before .before .before .before .count-vertices .ensures .0) in let room = ground-room (manyOf g) (length (now (a .vertices))) (length (now (a .normals))) (length (now (a .indices))) (rw k at (sym (c .before .before .before .before .before .before .before .before .before .before .result-fault .ensures) ∙ ap found (c .before .before .before .before .before .before .before .before .enum-told .given .1))) in omega (arith, k, room .limit, room .indices)
+count-up-requires c κs =
+    let told = c .before .before .before .before .before .before .before .before in
+    let room = told .before .before in
+    let lengths = room .before in
+    let many = lengths .before in
+    let step = many .before in
+    let clip = step .before .before .before in
+    let start = clip .before .before .before .before .before .before .before .before .before in
+    let a = start .args in
+    let ring = now (a .ring) in
+    let p = clip .clip .ensures in
+    let few = ears-few ring (start .pre .1) in
+    let e : take (clip .clip .result) (clip .clip .last .1 .0) ≡ earsOf ring = put-front p (omega (arith, p .ends, few, length-replicate {A = ℕ} 3072 0)) in
+    let g = ground ring (a .grid) (now (a .rows)) (now (a .left)) (now (a .right)) in
+    let m = meshLists (now (a .vertices)) (now (a .normals)) (now (a .indices)) [] in
+    let k : many .count-vertices .result ≡ manyOf g = rw (step .step-of .ensures, e) at (many .count-vertices .ensures .0) in
+    let f = ground-fits g m _ _ _ k (lengths .ground-lengths .ensures) (room .room-fault .ensures) (told .enum-told .given .1) in
+    omega (arith, k, f .few-vertices, f .indices)
 
 returns : tie.Need-returns
-unfolding found
-returns c = let a = c .before .before .before .before .before .before .before .before .before .before .before .before .before .before .before .before .before .args in let ring = now (a .ring) in let p = c .before .before .before .before .before .before .before .before .clip .ensures in let few = ears-few ring (c .before .before .before .before .before .before .before .before .before .before .before .before .before .before .before .before .before .pre .1) in let e : take (c .before .before .before .before .before .before .before .before .clip .result) (c .before .before .before .before .before .before .before .before .clip .last .1 .0) ≡ earsOf ring = put-front p (omega (arith, p .ends, few, length-replicate {A = ℕ} 3072 0)) in let g = ground ring (a .grid) (now (a .rows)) (now (a .left)) (now (a .right)) in let k : c .before .before .before .before .count-vertices .result ≡ manyOf g = rw (c .before .before .before .before .before .step-of .ensures, e) at (c .before .before .before .before .count-vertices .ensures .0) in ground-stays g (now (a .vertices)) (now (a .normals)) (now (a .indices)) _ (ground-refused g (length (now (a .vertices))) (length (now (a .normals))) (length (now (a .indices))) _ _ (rw k at (sym (ap found (c .before .f .given .1)) ∙ c .before .before .before .result-fault .ensures)))
+returns c =
+    let room = c .before .before .before in
+    let lengths = room .before in
+    let many = lengths .before in
+    let step = many .before in
+    let clip = step .before .before .before in
+    let start = clip .before .before .before .before .before .before .before .before .before in
+    let a = start .args in
+    let ring = now (a .ring) in
+    let p = clip .clip .ensures in
+    let few = ears-few ring (start .pre .1) in
+    let e : take (clip .clip .result) (clip .clip .last .1 .0) ≡ earsOf ring = put-front p (omega (arith, p .ends, few, length-replicate {A = ℕ} 3072 0)) in
+    let g = ground ring (a .grid) (now (a .rows)) (now (a .left)) (now (a .right)) in
+    let m = meshLists (now (a .vertices)) (now (a .normals)) (now (a .indices)) [] in
+    let k : many .count-vertices .result ≡ manyOf g = rw (step .step-of .ensures, e) at (many .count-vertices .ensures .0) in
+    ground-stays g m _ (ground-refused g m _ _ _ k (lengths .ground-lengths .ensures) (room .room-fault .ensures) (c .before .f .given .1))
 
 same-length : tie.Need-same-length
 same-length c = search needs
@@ -64,8 +114,27 @@ same-length-3 : tie.Need-same-length-3
 same-length-3 c = search needs
 
 returns-2 : tie.Need-returns-2
-unfolding found
-returns-2 c = let a = c .before .before .before .before .before .before .before .before .before .before .before .before .before .before .before .before .before .before .before .before .before .before .before .before .before .before .before .args in let ring = now (a .ring) in let p = c .before .before .before .before .before .before .before .before .before .before .before .before .before .before .before .before .before .before .clip .ensures in let few = ears-few ring (c .before .before .before .before .before .before .before .before .before .before .before .before .before .before .before .before .before .before .before .before .before .before .before .before .before .before .before .pre .1) in let e : take (c .before .before .before .before .before .before .before .before .before .before .before .before .before .before .before .before .before .before .clip .result) (c .before .before .before .before .before .before .before .before .before .before .before .before .before .before .before .before .before .before .clip .last .1 .0) ≡ earsOf ring = put-front p (omega (arith, p .ends, few, length-replicate {A = ℕ} 3072 0)) in let g = ground ring (a .grid) (now (a .rows)) (now (a .left)) (now (a .right)) in let k : c .before .before .before .before .before .before .before .before .before .before .before .before .before .before .count-vertices .result ≡ manyOf g = rw (c .before .before .before .before .before .before .before .before .before .before .before .before .before .before .before .step-of .ensures, e) at (c .before .before .before .before .before .before .before .before .before .before .before .before .before .before .count-vertices .ensures .0) in let room = ground-room (manyOf g) (length (now (a .vertices))) (length (now (a .normals))) (length (now (a .indices))) (rw k at (sym (c .before .before .before .before .before .before .before .before .before .before .before .before .before .result-fault .ensures) ∙ ap found (c .before .before .before .before .before .before .before .before .before .before .before .enum-told .given .1))) in let x = c .before .before .before .before .before .before .before .before .put-ears .ensures in rw k (ground-left g (now (a .vertices)) _ (now (a .normals)) _ (now (a .indices)) _ (ground-taken g (length (now (a .vertices))) (length (now (a .normals))) (length (now (a .indices))) (rw k at (sym (ap found (c .before .before .before .before .before .before .before .before .before .before .before .enum-told .given .1)) ∙ c .before .before .before .before .before .before .before .before .before .before .before .before .before .result-fault .ensures))) room (rw e at (x .0)) (rw e at (x .1)) (rw k at (c .before .before .count-up .ensures)))
+returns-2 c =
+    let put = c .before .before .before .before .before .before .before .before in
+    let told = put .before .before .before in
+    let room = told .before .before in
+    let lengths = room .before in
+    let many = lengths .before in
+    let step = many .before in
+    let clip = step .before .before .before in
+    let start = clip .before .before .before .before .before .before .before .before .before in
+    let a = start .args in
+    let ring = now (a .ring) in
+    let p = clip .clip .ensures in
+    let few = ears-few ring (start .pre .1) in
+    let e : take (clip .clip .result) (clip .clip .last .1 .0) ≡ earsOf ring = put-front p (omega (arith, p .ends, few, length-replicate {A = ℕ} 3072 0)) in
+    let g = ground ring (a .grid) (now (a .rows)) (now (a .left)) (now (a .right)) in
+    let m = meshLists (now (a .vertices)) (now (a .normals)) (now (a .indices)) [] in
+    let k : many .count-vertices .result ≡ manyOf g = rw (step .step-of .ensures, e) at (many .count-vertices .ensures .0) in
+    let x = put .put-ears .ensures in
+    let f = ground-fits g m _ _ _ k (lengths .ground-lengths .ensures) (room .room-fault .ensures) (told .enum-told .given .1) in
+    let t = ground-taken g m _ _ _ k (lengths .ground-lengths .ensures) (room .room-fault .ensures) (told .enum-told .given .1) in
+    rw k (ground-left g (now (a .vertices)) _ (now (a .normals)) _ (now (a .indices)) _ t f (rw e at (x .0)) (rw e at (x .1)) (rw k at (c .before .before .count-up .ensures)))
 
 pub mesh-checked-spec : {M : Type 1} → statement M
 mesh-checked-spec =
@@ -77,7 +146,8 @@ mesh-checked-spec =
     slice-aggregate-ears
     step-of-requires
     count-vertices-requires
-    result-fault-requires
+    ground-lengths-requires
+    room-fault-requires
     enum-known-f
     enum-told
     put-ears-requires

@@ -5,10 +5,11 @@ use Prim.Native.Nat.{ℕ, _-_, _*_, _≤_}
 use native.Mathlib.Omega.{arith}
 use denote.Ref.{now}
 use lib.Ieee.{Float}
-use Rattle.shape.specs.declared.mesh.At.{At}
+use Rattle.shape.specs.declared.strip.At.{At}
 use Rattle.shape.specs.Gather.{gather}
 use Rattle.shape.specs.Lists.{runLong}
-use Rattle.shape.specs.SurfaceMesh.{given, Enough}
+use Rattle.shape.specs.SurfaceMesh.{given}
+use Rattle.shape.specs.MeshSteps.{Enough}
 use Rattle.shape.specs.Laws.Gather.{any-none}
 use Rattle.shape.proofs.Meshing.{next-enough}
 use Rattle.shape.proofs.mesh.most_sizes.Statement.{statement}

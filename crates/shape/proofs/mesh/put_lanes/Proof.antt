@@ -6,7 +6,8 @@ use denote.Ref.{now}
 use lib.ListN.{length}
 use Rattle.shape.specs.Gather.{gather}
 use Rattle.shape.specs.Lists.{runLong}
-use Rattle.shape.specs.SurfaceMesh.{given, Written}
+use Rattle.shape.specs.SurfaceMesh.{given}
+use Rattle.shape.specs.MeshSteps.{Written}
 use Rattle.shape.specs.Laws.Gather.{any-none}
 use Rattle.shape.specs.Laws.Memory.{put-none, put-length}
 use Rattle.shape.proofs.Strips.{blank-length}

@@ -5,10 +5,11 @@ use Prim.Native.Nat.{ℕ, _-_, _*_, _≤_}
 use native.Mathlib.Omega.{arith}
 use denote.Ref.{now}
 use lib.ListN.{length}
-use Rattle.shape.specs.declared.mesh.At.{At}
+use Rattle.shape.specs.declared.strip.At.{At}
 use Rattle.shape.specs.Gather.{gather}
 use Rattle.shape.specs.Lists.{runLong}
-use Rattle.shape.specs.SurfaceMesh.{Given, given, Sizes}
+use Rattle.shape.specs.SurfaceMesh.{Given, given}
+use Rattle.shape.specs.MeshSteps.{Sizes}
 use Rattle.shape.specs.Laws.Gather.{any-none}
 use Rattle.shape.proofs.Strips.{blank-length}
 use Rattle.shape.proofs.Meshing.{next-sizes}
