@@ -2,8 +2,9 @@
 use mathlib.Core.Path.{sym}
 use denote.Ref.{now}
 use Rattle.surface.specs.File.{heldFault, bytesOf, writeOf}
-use Rattle.surface.specs.Laws.File.{bytes-length}
+use Rattle.surface.specs.Laws.File.{bytes-length, whole-held}
 use Rattle.surface.proofs.Copies.{sound, faulty, said-faulty, said-short, said-copied}
+use native.Mathlib.Omega.{arith}
 use borrow.Author.Needs.{needs}
 use Rattle.surface.proofs.file.write.Statement.{statement}
 use Rattle.surface.proofs.file.write.Tie as tie
@@ -29,7 +30,7 @@ unfolding writeOf
 returns-2 c = let a = c .before .before .before .before .before .before .args in let f = heldFault (now (a .held)) in let r = bytesOf (now (a .held)) in let o = now (a .bytes) in said-short f r o _ (sound (c .before .enum-told .given .1) (c .before .before .before .held-fault .ensures)) (sym (bytes-length (now (a .held)))) (c .if1 .taken)
 
 copy-bytes-requires : tie.Need-copy-bytes-requires
-copy-bytes-requires c κs = search needs
+copy-bytes-requires c κs = (whole-held _ (sound (c .before .before .enum-told .given .1) (c .before .before .before .before .held-fault .ensures)) .0, omega (arith, c .before .if1 .left))
 
 same-length : tie.Need-same-length
 same-length c = search needs
