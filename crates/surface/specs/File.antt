@@ -51,7 +51,8 @@ questionKind = 3
 unfoldable pub byKind : {A : Type 0} → ℕ → A → A → A → A
 byKind kind vertex triangle question = cond (eqb kind vertexKind) vertex (cond (eqb kind triangleKind) triangle question)
 
--- "other words are 0": words 0 to 7 of each kind, in a file and held
+-- words 0 to 7 of each kind, in a file and held: a vertex has its place in 1 to 3 and its normal in 4 to 6, a triangle its vertices in 1 to 3 and its
+-- lane id in 4, a question its x and y in 1 and 2; "other words are 0"
 abbrev used : Bool
 used = false
 

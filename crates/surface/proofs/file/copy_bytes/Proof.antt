@@ -35,7 +35,10 @@ file-of-requires : tie.Need-file-of-requires Inv-loop μ-loop
 file-of-requires c κs = omega arith
 
 put-file-requires : tie.Need-put-file-requires Inv-loop μ-loop
-put-file-requires c κs = let l = c .before .before .before .before .loop in let z = file-eight _ (l .k) (omega (arith, l .inv)) (c .before .held-record .ensures) (c .file-of .ensures) in (omega (arith, put-length (l .inv .0), l .inv, c .before .before .before .before .before .before .before .pre), z .1)
+put-file-requires c κs =
+    let l = c .before .before .before .before .loop in
+    let z = file-eight _ (l .k) (omega (arith, l .inv)) (c .before .held-record .ensures) (c .file-of .ensures) in
+    (omega (arith, put-length (l .inv .0), l .inv, c .before .before .before .before .before .before .before .pre), z .1)
 
 add-k : tie.Need-add-k Inv-loop μ-loop
 add-k c = omega arith
@@ -44,14 +47,25 @@ loop-less : tie.Need-loop-less Inv-loop μ-loop
 loop-less c = omega arith
 
 loop-again : tie.Need-loop-again Inv-loop μ-loop
-loop-again c = let l = c .before .before .before .before .before .before .before .loop in let xs = now (c .before .before .before .before .before .before .before .before .before .before .args .held) in let z = file-eight xs (l .k) (omega (arith, l .inv)) (c .before .before .before .before .held-record .ensures) (c .before .before .before .file-of .ensures) in let p = c .before .before .put-file .ensures in (put-turn (λ k. encode (fileAt xs k)) (l .k) (l .inv .0) (rw (z .0) at p), omega (arith, p .ends, encode-length (c .before .before .before .file-of .result .words), z .1, l .inv), omega arith, l .inv .3)
+loop-again c =
+    let l = c .before .before .before .before .before .before .before .loop in
+    let xs = now (c .before .before .before .before .before .before .before .before .before .before .args .held) in
+    let z = file-eight xs (l .k) (omega (arith, l .inv)) (c .before .before .before .before .held-record .ensures) (c .before .before .before .file-of .ensures) in
+    let p = c .before .before .put-file .ensures in
+    (put-turn (λ k. encode (fileAt xs k)) (l .k) (l .inv .0) (rw (z .0) at p), omega (arith, p .ends, encode-length (c .before .before .before .file-of .result .words), z .1, l .inv), omega arith, l .inv .3)
 
 same-length : tie.Need-same-length Inv-loop μ-loop
 same-length c = put-length (c .before .loop .inv .0)
 
 returns : tie.Need-returns Inv-loop μ-loop
 unfolding bytesOf parts
-returns c = let l = c .before .loop in let s = c .before .before .before .before in let xs = now (s .args .held) in let e : l .k ≡ (length xs + 7) / 8 = omega (arith, l .inv, s .pre) in let f : l .at ≡ 4 * length xs = omega (arith, l .inv, s .pre) in rw (e, f) at (l .inv .0)
+returns c =
+    let l = c .before .loop in
+    let s = c .before .before .before .before in
+    let xs = now (s .args .held) in
+    let e : l .k ≡ (length xs + 7) / 8 = omega (arith, l .inv, s .pre) in
+    let f : l .at ≡ 4 * length xs = omega (arith, l .inv, s .pre) in
+    rw (e, f) at (l .inv .0)
 
 pub copy-bytes-spec : {M : Type 1} → statement M
 copy-bytes-spec =

@@ -34,7 +34,10 @@ held-of-requires : tie.Need-held-of-requires Inv-loop μ-loop
 held-of-requires c κs = omega arith
 
 put-held-requires : tie.Need-put-held-requires Inv-loop μ-loop
-put-held-requires c κs = let l = c .before .before .before .before .loop in let z = held-eight _ (l .k) (omega (arith, l .inv)) (c .before .file-record .ensures) (c .held-of .ensures) in (omega (arith, put-length (l .inv .0), l .inv, c .before .before .before .before .before .before .before .pre), z .1)
+put-held-requires c κs =
+    let l = c .before .before .before .before .loop in
+    let z = held-eight _ (l .k) (omega (arith, l .inv)) (c .before .file-record .ensures) (c .held-of .ensures) in
+    (omega (arith, put-length (l .inv .0), l .inv, c .before .before .before .before .before .before .before .pre), z .1)
 
 add-k : tie.Need-add-k Inv-loop μ-loop
 add-k c = omega arith
@@ -43,14 +46,25 @@ loop-less : tie.Need-loop-less Inv-loop μ-loop
 loop-less c = omega arith
 
 loop-again : tie.Need-loop-again Inv-loop μ-loop
-loop-again c = let l = c .before .before .before .before .before .before .before .loop in let xs = now (c .before .before .before .before .before .before .before .before .before .before .args .bytes) in let z = held-eight xs (l .k) (omega (arith, l .inv)) (c .before .before .before .before .file-record .ensures) (c .before .before .before .held-of .ensures) in let p = c .before .before .put-held .ensures in (put-turn (heldAt xs) (l .k) (l .inv .0) (rw (z .0) at p), omega (arith, p .ends, z .1, l .inv), omega arith, l .inv .3)
+loop-again c =
+    let l = c .before .before .before .before .before .before .before .loop in
+    let xs = now (c .before .before .before .before .before .before .before .before .before .before .args .bytes) in
+    let z = held-eight xs (l .k) (omega (arith, l .inv)) (c .before .before .before .before .file-record .ensures) (c .before .before .before .held-of .ensures) in
+    let p = c .before .before .put-held .ensures in
+    (put-turn (heldAt xs) (l .k) (l .inv .0) (rw (z .0) at p), omega (arith, p .ends, z .1, l .inv), omega arith, l .inv .3)
 
 same-length : tie.Need-same-length Inv-loop μ-loop
 same-length c = put-length (c .before .loop .inv .0)
 
 returns : tie.Need-returns Inv-loop μ-loop
 unfolding wordsOf parts
-returns c = let l = c .before .loop in let s = c .before .before .before .before in let xs = now (s .args .bytes) in let e : l .k ≡ (length xs + 31) / 32 = omega (arith, l .inv, s .pre) in let f : l .at ≡ length xs / 4 = omega (arith, l .inv, s .pre) in rw (e, f) at (l .inv .0)
+returns c =
+    let l = c .before .loop in
+    let s = c .before .before .before .before in
+    let xs = now (s .args .bytes) in
+    let e : l .k ≡ (length xs + 31) / 32 = omega (arith, l .inv, s .pre) in
+    let f : l .at ≡ length xs / 4 = omega (arith, l .inv, s .pre) in
+    rw (e, f) at (l .inv .0)
 
 pub copy-words-spec : {M : Type 1} → statement M
 copy-words-spec =

@@ -57,7 +57,16 @@ word-at-requires-8 : tie.Need-word-at-requires-8
 word-at-requires-8 c κs = search needs
 
 returns : tie.Need-returns
-returns c = let s = c .before .before .before .before .before .before .before .before .before in rw (c .word-at8 .ensures, c .before .word-at7 .ensures, c .before .before .word-at6 .ensures, c .before .before .before .word-at5 .ensures, c .before .before .before .before .word-at4 .ensures, c .before .before .before .before .before .word-at3 .ensures, c .before .before .before .before .before .before .word-at2 .ensures, c .before .before .before .before .before .before .before .word-at .ensures) (sym (file-words _ _ (s .pre)))
+returns c =
+    let w7 = c .before in
+    let w6 = w7 .before in
+    let w5 = w6 .before in
+    let w4 = w5 .before in
+    let w3 = w4 .before in
+    let w2 = w3 .before in
+    let w1 = w2 .before in
+    rw (c .word-at8 .ensures, w7 .word-at7 .ensures, w6 .word-at6 .ensures, w5 .word-at5 .ensures, w4 .word-at4 .ensures, w3 .word-at3 .ensures, w2 .word-at2 .ensures, w1 .word-at .ensures)
+    (sym (file-words _ _ (w1 .before .before .pre)))
 
 pub file-record-spec : {M : Type 1} → statement M
 file-record-spec =

@@ -29,10 +29,20 @@ record-at-requires : tie.Need-record-at-requires Inv-loop μ-loop
 record-at-requires c κs = omega arith
 
 sound-kind-requires : tie.Need-sound-kind-requires Inv-loop μ-loop
-sound-kind-requires c κs = let a = c .before .before .before .before .before .before .args in let bs = now (a .bytes) in let ws = now (a .held) in let l = c .before .before .loop in whole-eight (a .form) bs ws (l .k) (omega (arith, l .inv)) (c .record-at .ensures)
+sound-kind-requires c κs =
+    let a = c .before .before .before .before .before .before .args in
+    let bs = now (a .bytes) in
+    let ws = now (a .held) in
+    let l = c .before .before .loop in
+    whole-eight (a .form) bs ws (l .k) (omega (arith, l .inv)) (c .record-at .ensures)
 
 returns : tie.Need-returns Inv-loop μ-loop
-returns c = let a = c .before .before .before .before .before .before .before .before .args in let bs = now (a .bytes) in let ws = now (a .held) in let l = c .before .before .before .before .loop in passed-bad (a .form) (recordIn (a .form) bs ws) (l .last) (l .k) _ (l .inv .0) (rw (c .before .before .record-at .ensures) at (c .before .sound-kind .ensures)) (wholeIn (a .form) bs ws) (omega (arith, l .inv)) (c .if1 .taken)
+returns c =
+    let a = c .before .before .before .before .before .before .before .before .args in
+    let bs = now (a .bytes) in
+    let ws = now (a .held) in
+    let l = c .before .before .before .before .loop in
+    passed-bad (a .form) (recordIn (a .form) bs ws) (l .last) (l .k) _ (l .inv .0) (rw (c .before .before .record-at .ensures) at (c .before .sound-kind .ensures)) (wholeIn (a .form) bs ws) (omega (arith, l .inv)) (c .if1 .taken)
 
 add-k : tie.Need-add-k Inv-loop μ-loop
 add-k c = omega arith
@@ -41,10 +51,21 @@ loop-less : tie.Need-loop-less Inv-loop μ-loop
 loop-less c = omega arith
 
 loop-again : tie.Need-loop-again Inv-loop μ-loop
-loop-again c = let a = c .before .before .before .before .before .before .before .before .args in let bs = now (a .bytes) in let ws = now (a .held) in let l = c .before .before .before .before .loop in (passed-next (a .form) (recordIn (a .form) bs ws) (l .last) (l .k) _ (l .inv .0) (rw (c .before .before .record-at .ensures) at (c .before .sound-kind .ensures)) (c .if1 .left), omega arith, l .inv .2)
+loop-again c =
+    let a = c .before .before .before .before .before .before .before .before .args in
+    let bs = now (a .bytes) in
+    let ws = now (a .held) in
+    let l = c .before .before .before .before .loop in
+    (passed-next (a .form) (recordIn (a .form) bs ws) (l .last) (l .k) _ (l .inv .0) (rw (c .before .before .record-at .ensures) at (c .before .sound-kind .ensures)) (c .if1 .left), omega arith, l .inv .2)
 
 returns-2 : tie.Need-returns-2 Inv-loop μ-loop
-returns-2 c = let a = c .before .before .before .before .before .args in let bs = now (a .bytes) in let ws = now (a .held) in let l = c .before .loop in let e : l .k ≡ wholeIn (a .form) bs ws = omega (arith, l .inv) in e ∙ passed-all (a .form) (recordIn (a .form) bs ws) (l .last) (wholeIn (a .form) bs ws) (rw e at (l .inv .0))
+returns-2 c =
+    let a = c .before .before .before .before .before .args in
+    let bs = now (a .bytes) in
+    let ws = now (a .held) in
+    let l = c .before .loop in
+    let e : l .k ≡ wholeIn (a .form) bs ws = omega (arith, l .inv) in
+    e ∙ passed-all (a .form) (recordIn (a .form) bs ws) (l .last) (wholeIn (a .form) bs ws) (rw e at (l .inv .0))
 
 pub first-bad-spec : {M : Type 1} → statement M
 first-bad-spec =

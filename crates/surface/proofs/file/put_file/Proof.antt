@@ -40,14 +40,22 @@ loop-less c = omega arith
 
 loop-again : tie.Need-loop-again Inv-loop μ-loop
 unfolding fourBytes
-loop-again c = let l = c .before .before .before .before .before .loop in let p = c .before .before .put-word .ensures in let ws = c .before .before .before .before .before .before .before .before .args .r .words in (put-turn (λ k. fourBytes (getD ws k 0)) (l .j) (l .inv .0) p, omega (arith, p .ends, l .inv), omega arith)
+loop-again c =
+    let l = c .before .before .before .before .before .loop in
+    let p = c .before .before .put-word .ensures in
+    let ws = c .before .before .before .before .before .before .before .before .args .r .words in
+    (put-turn (λ k. fourBytes (getD ws k 0)) (l .j) (l .inv .0) p, omega (arith, p .ends, l .inv), omega arith)
 
 same-length : tie.Need-same-length Inv-loop μ-loop
 same-length c = put-length (c .before .loop .inv .0)
 
 returns : tie.Need-returns Inv-loop μ-loop
 unfolding encode
-returns c = let l = c .before .loop in let ws = c .before .before .before .before .args .r .words in let e : l .j ≡ length ws = omega (arith, l .inv .2, c .before .before .before .before .pre .1) in rw e at (l .inv .0)
+returns c =
+    let l = c .before .loop in
+    let ws = c .before .before .before .before .args .r .words in
+    let e : l .j ≡ length ws = omega (arith, l .inv .2, c .before .before .before .before .pre .1) in
+    rw e at (l .inv .0)
 
 pub put-file-spec : {M : Type 1} → statement M
 put-file-spec =

@@ -46,7 +46,10 @@ loop-less : tie.Need-loop-less Inv-loop μ-loop
 loop-less c = omega arith
 
 loop-again : tie.Need-loop-again Inv-loop μ-loop
-loop-again c = let l = c .before .loop in let ws = c .before .before .before .args .r .words in (put-turn (λ k. getD ws k 0 ∷ []) (l .j) (l .inv .0) (record { memory = refl; ends = omega arith }), omega arith)
+loop-again c =
+    let l = c .before .loop in
+    let ws = c .before .before .before .args .r .words in
+    (put-turn (λ k. getD ws k 0 ∷ []) (l .j) (l .inv .0) (record { memory = refl; ends = omega arith }), omega arith)
 
 add-result : tie.Need-add-result Inv-loop μ-loop
 add-result c = omega arith
@@ -55,7 +58,11 @@ same-length : tie.Need-same-length Inv-loop μ-loop
 same-length c = put-length (c .before .loop .inv .0)
 
 returns : tie.Need-returns Inv-loop μ-loop
-returns c = let l = c .before .loop in let ws = c .before .before .before .args .r .words in let e : l .j ≡ 8 = omega (arith, l .inv .1) in rw (listed ws 8 (c .before .before .before .pre .1)) at (rw e at (l .inv .0))
+returns c =
+    let l = c .before .loop in
+    let ws = c .before .before .before .args .r .words in
+    let e : l .j ≡ 8 = omega (arith, l .inv .1) in
+    rw (listed ws 8 (c .before .before .before .pre .1)) at (rw e at (l .inv .0))
 
 pub put-held-spec : {M : Type 1} → statement M
 put-held-spec =

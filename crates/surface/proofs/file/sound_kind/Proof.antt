@@ -25,7 +25,9 @@ returns-3 : tie.Need-returns-3
 returns-3 c = kind-spare _ _ _ (sym (c .before .spare-used .ensures) ∙ c .if3 .taken)
 
 returns-4 : tie.Need-returns-4
-returns-4 c = let s = c .before .before .before .before .before in kind-kept _ _ _ (omega (arith, s .pre)) (c .before .before .before .if1 .left) (c .before .before .if2 .left) (sym (c .before .spare-used .ensures) ∙ c .if3 .left)
+returns-4 c =
+    let s = c .before .before .before .before .before in
+    kind-kept _ _ _ (omega (arith, s .pre)) (c .before .before .before .if1 .left) (c .before .before .if2 .left) (sym (c .before .spare-used .ensures) ∙ c .if3 .left)
 
 pub sound-kind-spec : {M : Type 1} → statement M
 sound-kind-spec =

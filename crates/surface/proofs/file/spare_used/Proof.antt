@@ -37,7 +37,10 @@ spare-filled-requires c κs = omega arith
 
 returns : tie.Need-returns Inv-loop μ-loop
 unfolding spareUsed
-returns c = let l = c .before .before .before .loop in let a = c .before .before .before .before .before .args in sym (any-some (spareUsed (a .form) (a .r .words)) (l .j) 8 (omega arith) (rw (← (l .inv .1)) (sym (c .before .spare-filled .ensures) ∙ c .if1 .taken)))
+returns c =
+    let l = c .before .before .before .loop in
+    let a = c .before .before .before .before .before .args in
+    sym (any-some (spareUsed (a .form) (a .r .words)) (l .j) 8 (omega arith) (rw (← (l .inv .1)) (sym (c .before .spare-filled .ensures) ∙ c .if1 .taken)))
 
 add-j : tie.Need-add-j Inv-loop μ-loop
 add-j c = omega arith
@@ -47,7 +50,10 @@ loop-less c = omega arith
 
 loop-again : tie.Need-loop-again Inv-loop μ-loop
 unfolding spareUsed
-loop-again c = let l = c .before .before .before .loop in let a = c .before .before .before .before .before .args in (rw (any-next (spareUsed (a .form) (a .r .words)) (l .j), l .inv .0, ← (l .inv .1)) (sym (c .before .spare-filled .ensures) ∙ c .if1 .left), l .inv .1, omega arith)
+loop-again c =
+    let l = c .before .before .before .loop in
+    let a = c .before .before .before .before .before .args in
+    (rw (any-next (spareUsed (a .form) (a .r .words)) (l .j), l .inv .0, ← (l .inv .1)) (sym (c .before .spare-filled .ensures) ∙ c .if1 .left), l .inv .1, omega arith)
 
 returns-2 : tie.Need-returns-2 Inv-loop μ-loop
 returns-2 c = let l = c .before .loop in let e : l .j ≡ 8 = omega (arith, l .inv .2) in sym (rw e at (l .inv .0))
