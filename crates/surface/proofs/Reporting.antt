@@ -29,7 +29,8 @@ use Rattle.lookup.specs.Batch.{recordWords, recordsOf, topsOf, readSampling}
 use Rattle.surface.specs.declared.held.Sizes.{Sizes}
 use Rattle.surface.specs.declared.file.Copied.{Copied}
 use Rattle.surface.specs.declared.file.Copied.the-variants as copied
-use Rattle.surface.specs.File.{wordsOf, badAt, fileRecord, parts, recordFault, fileFault, readCopied}
+use Rattle.surface.specs.declared.file.Form.the-variants.{File}
+use Rattle.surface.specs.File.{wordsOf, badAt, fileRecord, parts, refuseFirst, surfaceFault, fileFault, readCopied}
 use Rattle.surface.specs.Held.{countKind, verticesOf}
 use Rattle.surface.specs.Text.{digitsOf, refusedLine}
 use Rattle.surface.specs.Report.{meshIn, indexIn, linesOf, orRefused, reportOf, reportAnswer}
@@ -170,11 +171,11 @@ module _
 -- ---- the file
 
 fault-place : (bs : List ℕ) (x p : ℕ) → fileFault bs ≡ fault x p → p ≤ 2048
-unfolding fileFault recordFault refuse
+unfolding fileFault surfaceFault refuseFirst refuse
 fault-place bs x p e =
     let n = parts 32 (length bs) in
-    let l = least (badAt (fileRecord bs)) n in
-    go n l (ltb 2048 n) (ltb l n) (ltb-false 2048 n) (least-le (badAt (fileRecord bs)) n) e
+    let l = least (badAt File (fileRecord bs)) n in
+    go n l (ltb 2048 n) (ltb l n) (ltb-false 2048 n) (least-le (badAt File (fileRecord bs)) n) e
   where
     go : (n l : ℕ) (a b : Bool) → (a ≡ false → n ≤ 2048) → l ≤ n → refuse a 1 2048 (refuse b 5 l fine) ≡ fault x p → p ≤ 2048
     go n l true b h k q = let w : p ≡ 2048 = cc in omega arith

@@ -4,7 +4,7 @@ use mathlib.Core.List.{List, [], _∷_, _++_}
 use Prim.Native.Nat.{ℕ}
 use lib.ListN.{set, take}
 use Rattle.shape.specs.Refusal.{fine, fault, taken, refused}
-use Rattle.surface.specs.File.{wordsOf, bytesOf, heldFault, readOf}
+use Rattle.surface.specs.File.{encode, wordsOf, bytesOf, heldFault, readOf}
 use Rattle.surface.specs.Held.{indicesOf, laneOf}
 
 -- vertices (0,0,2) (4,0,2) (4,4,2) (0,4,2) with normals (0,0,1), triangles 0 1 2 and 0 2 3 of lane 5, questions (3,1) (9,9)
@@ -43,6 +43,15 @@ bytes = refl
 back : wordsOf (1 ∷ 0 ∷ 0x80 ∷ 0x3f ∷ 7 ∷ []) ≡ 0x3f80_0001 ∷ []
 unfolding wordsOf
 back = refl
+
+-- a triangle is held as it stands in the file
+held-triangle : wordsOf (encode (triangle 0 1 2)) ≡ triangle 0 1 2
+unfolding wordsOf encode
+held-triangle = refl
+
+written-triangle : bytesOf (triangle 0 1 2) ≡ encode (triangle 0 1 2)
+unfolding bytesOf
+written-triangle = refl
 
 -- a spare word of record 3, of record 4 and of record 6; a kind that falls, and one that is unknown; a last part record
 spare-of-vertex : heldFault (set sample 31 1) ≡ fault 5 3

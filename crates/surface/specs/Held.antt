@@ -1,5 +1,5 @@
--- Document 01, "Surface file and `probe`": the mesh and the questions that held words stand for. Word 0 of a record is its kind: 1 vertex (words 1-3
--- place, 4-6 normal), 2 triangle (1-3 vertices, 4 lane id), 3 question (1-2 x and y). "Floats by their bits." Definitions only. Assumes nothing.
+-- Document 01, "Surface file and `probe`": the mesh and the questions that held words stand for. "Floats by their bits." Definitions only. Assumes
+-- nothing.
 use mathlib.Core.Bool.{Bool, cond}
 use mathlib.Core.List.{List, [], _∷_}
 use Prim.Native.Nat.{ℕ, zero, suc, _+_, _/_}
@@ -10,6 +10,29 @@ use Rattle.shape.specs.Gather.{gather}
 use Rattle.shape.specs.Lists.{wordOf}
 use Rattle.surface.specs.declared.held.Sizes.{Sizes}
 use Rattle.surface.specs.declared.held.Question.{Question}
+use Rattle.surface.specs.File.{vertexKind, triangleKind, questionKind}
+
+-- ---- the words of a record as it is held, of which word 0 is the kind; of three or two in a row the first
+
+-- of a vertex
+abbrev pub placeWord : ℕ
+placeWord = 1
+
+abbrev pub normalWord : ℕ
+normalWord = 4
+
+-- of a triangle
+abbrev pub cornersWord : ℕ
+cornersWord = 1
+
+abbrev pub laneWord : ℕ
+laneWord = 4
+
+-- of a question: x and y
+abbrev pub pointWord : ℕ
+pointWord = 1
+
+-- ---- the records of a kind
 
 -- how many numbers below n the test holds of
 unfoldable pub howMany : (ℕ → Bool) → ℕ → ℕ
@@ -32,17 +55,17 @@ countKind ws kind = howMany (isKind ws kind) (length ws / 8)
 -- how many vertices, triangles and questions there are
 unfoldable pub sizesOf : List ℕ → Sizes
 unfolding countKind
-sizesOf ws = record { vertices = countKind ws 1; triangles = countKind ws 2; questions = countKind ws 3 }
+sizesOf ws = record { vertices = countKind ws vertexKind; triangles = countKind ws triangleKind; questions = countKind ws questionKind }
 
 -- ---- "kinds never fall": the vertices are the first records, then come the triangles, then the questions
 
 unfoldable pub triangleRecord : List ℕ → ℕ → ℕ
 unfolding countKind
-triangleRecord ws t = countKind ws 1 + t
+triangleRecord ws t = countKind ws vertexKind + t
 
 unfoldable pub questionRecord : List ℕ → ℕ → ℕ
 unfolding countKind
-questionRecord ws k = countKind ws 1 + countKind ws 2 + k
+questionRecord ws k = countKind ws vertexKind + countKind ws triangleKind + k
 
 -- the single in word j of record k
 unfoldable pub singleIn : List ℕ → ℕ → ℕ → Float
@@ -52,38 +75,40 @@ singleIn ws k j = ofBits binary32 (word ws k j)
 -- the place and the normal of vertex k, and the corners of triangle t
 unfoldable pub placeIn : List ℕ → ℕ → List Float
 unfolding singleIn
-placeIn ws k = singleIn ws k 1 ∷ singleIn ws k 2 ∷ singleIn ws k 3 ∷ []
+placeIn ws k = singleIn ws k placeWord ∷ singleIn ws k (placeWord + 1) ∷ singleIn ws k (placeWord + 2) ∷ []
 
 unfoldable pub normalIn : List ℕ → ℕ → List Float
 unfolding singleIn
-normalIn ws k = singleIn ws k 4 ∷ singleIn ws k 5 ∷ singleIn ws k 6 ∷ []
+normalIn ws k = singleIn ws k normalWord ∷ singleIn ws k (normalWord + 1) ∷ singleIn ws k (normalWord + 2) ∷ []
 
 unfoldable pub cornersIn : List ℕ → ℕ → List ℕ
 unfolding triangleRecord wordOf
-cornersIn ws t = word ws (triangleRecord ws t) 1 ∷ word ws (triangleRecord ws t) 2 ∷ word ws (triangleRecord ws t) 3 ∷ []
+cornersIn ws t =
+    let k = triangleRecord ws t in
+    word ws k cornersWord ∷ word ws k (cornersWord + 1) ∷ word ws k (cornersWord + 2) ∷ []
 
 -- the lists of the mesh, in threes
 unfoldable pub verticesOf : List ℕ → List Float
 unfolding gather placeIn countKind
-verticesOf ws = gather (placeIn ws) (countKind ws 1)
+verticesOf ws = gather (placeIn ws) (countKind ws vertexKind)
 
 unfoldable pub normalsOf : List ℕ → List Float
 unfolding gather normalIn countKind
-normalsOf ws = gather (normalIn ws) (countKind ws 1)
+normalsOf ws = gather (normalIn ws) (countKind ws vertexKind)
 
 unfoldable pub indicesOf : List ℕ → List ℕ
 unfolding gather cornersIn countKind
-indicesOf ws = gather (cornersIn ws) (countKind ws 2)
+indicesOf ws = gather (cornersIn ws) (countKind ws triangleKind)
 
 -- the lane id of triangle t, 0 for none
 unfoldable pub laneOf : List ℕ → ℕ → ℕ
 unfolding triangleRecord wordOf
-laneOf ws t = word ws (triangleRecord ws t) 4
+laneOf ws t = word ws (triangleRecord ws t) laneWord
 
 -- question k
 unfoldable pub questionAt : List ℕ → ℕ → Question
 unfolding questionRecord singleIn
-questionAt ws k = record { x = singleIn ws (questionRecord ws k) 1; y = singleIn ws (questionRecord ws k) 2 }
+questionAt ws k = record { x = singleIn ws (questionRecord ws k) pointWord; y = singleIn ws (questionRecord ws k) (pointWord + 1) }
 
 -- where all questions ask, in pairs
 unfoldable pub pointIn : List ℕ → ℕ → List Float
@@ -92,4 +117,4 @@ pointIn ws k = questionAt ws k .x ∷ questionAt ws k .y ∷ []
 
 unfoldable pub pointsOf : List ℕ → List Float
 unfolding gather pointIn countKind
-pointsOf ws = gather (pointIn ws) (countKind ws 3)
+pointsOf ws = gather (pointIn ws) (countKind ws questionKind)

@@ -1,14 +1,15 @@
 // The surface file. A file is bytes and a held surface is words, eight to a record; both are judged by
-// one rule and are turned into each other.
+// one rule and are turned into each other, record by record.
 ghost use mathlib.Core.Path.{_≡_};
-ghost use Prim.Native.Nat.{_+_, _-_, _*_, _/_, _≤_, _<_};
-ghost use lib.Dec.{ltb};
+ghost use mathlib.Core.Bool.{not, _&&_};
+ghost use Prim.Native.Nat.{_+_, _*_, _/_, _%_, _≤_, _<_};
+ghost use lib.Dec.{ltb, eqb};
 ghost use lib.ListN.{length};
 ghost use Rattle.shape.specs.Gather.{any, least};
 ghost use Rattle.shape.specs.Memory.{Put};
 ghost use Rattle.shape.specs.Refusal.{fine, refuse, found, leaves};
-ghost use Rattle.surface.specs.File.{wordAt, wordsOf, fourBytes, bytesOf, kindOf, spareFrom, spareUsed, badAt, parts, heldRecord, fileRecord, heldFault, fileFault, readOf, writeOf, readCopied};
-ghost use Rattle.surface.specs.FileSteps.{soundKind};
+ghost use Rattle.surface.specs.File.{wordAt, fourBytes, encode, kindOf, spare, spareUsed, badAt, parts, heldRecord, fileRecord, heldFault, fileFault, surfaceFault, heldOf, fileOf, wordsOf, bytesOf, readOf, writeOf, readCopied};
+ghost use Rattle.surface.specs.FileSteps.{soundKind, countIn, wholeIn, recordIn};
 use shape::refusal::Check;
 use shape::refusal::Refusal;
 
@@ -17,6 +18,27 @@ pub enum Copied {
     Count(usize),
     Refused(Refusal),
 }
+
+// The form that a surface is in: the bytes of a file, or words as they are held.
+enum Form {
+    File,
+    Held,
+}
+
+// The eight words of a record.
+struct Record {
+    words: [u32; 8],
+}
+
+// The kind of a record is its word 0.
+pub(crate) const VERTEX: u32 = 1;
+
+pub(crate) const TRIANGLE: u32 = 2;
+
+pub(crate) const QUESTION: u32 = 3;
+
+// The most records that a surface has.
+const RECORDS: usize = 2048;
 
 // ---- bytes and words
 
@@ -42,19 +64,6 @@ pub(crate) fn word_at(bytes: &[u8], i: usize) -> u32
     join(bytes[at], bytes[at + 1], bytes[at + 2], bytes[at + 3])
 }
 
-// All whole words of the bytes, to the front of `held`.
-fn copy_words(bytes: &[u8], held: &mut [u32])
-    requires { ⌜ length (now bytes) / 4 ≤ length (now held) ⌝ }
-    ensures { λ r. ⌜ Put (now (held .entry)) (now (held .exit)) 0 (wordsOf (now (bytes .entry))) (length (now (bytes .entry)) / 4) ⌝ }
-{
-    let n = bytes.len() / 4;
-    let mut i: usize = 0;
-    while i < n {
-        held[i] = word_at(bytes, i);
-        i += 1;
-    }
-}
-
 // A word's four bytes, from `at` on.
 fn put_word(bytes: &mut [u8], at: usize, word: u32) -> usize
     requires { ⌜ at + 4 ≤ length (now bytes) ⌝ }
@@ -67,43 +76,128 @@ fn put_word(bytes: &mut [u8], at: usize, word: u32) -> usize
     at + 4
 }
 
-// The bytes of all words, to the front of `bytes`.
-fn copy_bytes(held: &[u32], bytes: &mut [u8])
-    requires { ⌜ 4 * length (now held) ≤ length (now bytes) ⌝ }
-    ensures { λ r. ⌜ Put (now (bytes .entry)) (now (bytes .exit)) 0 (bytesOf (now (held .entry))) (4 * length (now (held .entry))) ⌝ }
+// ---- records
+
+// Record k of a file.
+fn file_record(bytes: &[u8], k: usize) -> Record
+    requires { ⌜ 32 * k + 32 ≤ length (now bytes) ⌝ }
+    ensures { λ r. ⌜ r .words ≡ fileRecord (now (bytes .entry)) k ⌝ }
 {
-    let mut at: usize = 0;
-    let mut i: usize = 0;
-    while i < held.len() {
-        at = put_word(bytes, at, held[i]);
-        i += 1;
+    let i = 8 * k;
+    Record {
+        words: [
+            word_at(bytes, i),
+            word_at(bytes, i + 1),
+            word_at(bytes, i + 2),
+            word_at(bytes, i + 3),
+            word_at(bytes, i + 4),
+            word_at(bytes, i + 5),
+            word_at(bytes, i + 6),
+            word_at(bytes, i + 7),
+        ],
     }
 }
 
-// ---- records
-
-// The first spare word of a record of this kind.
-fn spare_from(kind: u32) -> usize
-    ensures { λ r. ⌜ (r ≡ spareFrom kind) × (3 ≤ r) × (r ≤ 7) ⌝ }
+// Record k of held words.
+fn held_record(held: &[u32], k: usize) -> Record
+    requires { ⌜ 8 * k + 8 ≤ length (now held) ⌝ }
+    ensures { λ r. ⌜ r .words ≡ heldRecord (now (held .entry)) k ⌝ }
 {
-    if kind == 1 {
-        return 7;
+    let i = 8 * k;
+    Record {
+        words: [
+            held[i],
+            held[i + 1],
+            held[i + 2],
+            held[i + 3],
+            held[i + 4],
+            held[i + 5],
+            held[i + 6],
+            held[i + 7],
+        ],
     }
-    if kind == 2 {
-        return 5;
+}
+
+// A record's words, from `at` of `held` on.
+fn put_held(held: &mut [u32], at: usize, r: Record) -> usize
+    requires { ⌜ (at + 8 ≤ length (now held)) × (length (r .words) ≡ 8) ⌝ }
+    ensures { λ n. ⌜ Put (now (held .entry)) (now (held .exit)) at (r .words) n ⌝ }
+{
+    let words = r.words;
+    let mut j: usize = 0;
+    while j < 8 {
+        held[at + j] = words[j];
+        j += 1;
     }
-    3
+    at + 8
+}
+
+// A record's bytes, from `at` of `bytes` on.
+fn put_file(bytes: &mut [u8], at: usize, r: Record) -> usize
+    requires { ⌜ (at + 32 ≤ length (now bytes)) × (length (r .words) ≡ 8) ⌝ }
+    ensures { λ n. ⌜ Put (now (bytes .entry)) (now (bytes .exit)) at (encode (r .words)) n ⌝ }
+{
+    let words = r.words;
+    let mut next = at;
+    let mut j: usize = 0;
+    while j < 8 {
+        next = put_word(bytes, next, words[j]);
+        j += 1;
+    }
+    next
+}
+
+// ---- the codec: how a record stands in the file and how it is held, by its kind
+
+// A record of the file, as it is held.
+fn held_of(r: Record) -> Record
+    ensures { λ h. ⌜ h .words ≡ heldOf (kindOf (r .words)) (r .words) ⌝ }
+{
+    r
+}
+
+// A held record, as it stands in the file.
+fn file_of(r: Record) -> Record
+    ensures { λ f. ⌜ f .words ≡ fileOf (kindOf (r .words)) (r .words) ⌝ }
+{
+    r
+}
+
+// ---- one record
+
+// Has a record of this kind no use for its word j?
+fn spare(form: Form, kind: u32, j: usize) -> bool
+    requires { ⌜ j < 8 ⌝ }
+    ensures { λ r. ⌜ r ≡ spare form kind j ⌝ }
+{
+    if kind == VERTEX {
+        return j == 7;
+    }
+    if kind == TRIANGLE {
+        return 4 < j;
+    }
+    2 < j
+}
+
+fn spare_filled(form: Form, kind: u32, j: usize, word: u32) -> bool
+    requires { ⌜ j < 8 ⌝ }
+    ensures { λ r. ⌜ r ≡ (spare form kind j && not (eqb word 0)) ⌝ }
+{
+    if spare(form, kind, j) {
+        return word != 0;
+    }
+    false
 }
 
 // Is a spare word of the record used?
-fn spare_used(words: &[u32]) -> bool
-    requires { ⌜ 8 ≤ length (now words) ⌝ }
-    ensures { λ r. ⌜ r ≡ any (spareUsed (now (words .entry))) (8 - spareFrom (kindOf (now (words .entry)))) ⌝ }
+fn spare_used(form: Form, r: Record) -> bool
+    ensures { λ b. ⌜ b ≡ any (spareUsed form (r .words)) 8 ⌝ }
 {
-    let from = spare_from(words[0]);
+    let words = r.words;
+    let kind = words[0];
     let mut j: usize = 0;
-    while from + j < 8 {
-        if words[from + j] != 0 {
+    while j < 8 {
+        if spare_filled(form, kind, j, words[j]) {
             return true;
         }
         j += 1;
@@ -112,86 +206,25 @@ fn spare_used(words: &[u32]) -> bool
 }
 
 // The kind of a record that follows one of kind `last`, or 0 where it is bad.
-fn sound_kind(words: &[u32], last: u32) -> u32
-    ensures { λ r. ⌜ r ≡ soundKind (now (words .entry)) last ⌝ }
+fn sound_kind(form: Form, r: Record, last: u32) -> u32
+    requires { ⌜ length (r .words) ≡ 8 ⌝ }
+    ensures { λ kind. ⌜ kind ≡ soundKind form (r .words) last ⌝ }
 {
-    if words.len() < 8 {
-        return 0;
-    }
+    let words = r.words;
     let kind = words[0];
-    if 3 < kind {
+    if QUESTION < kind {
         return 0;
     }
     if kind < last {
         return 0;
     }
-    if spare_used(words) {
+    if spare_used(form, r) {
         return 0;
     }
     kind
 }
 
-// The same of record k of held words, and of a file.
-fn held_kind(held: &[u32], k: usize, last: u32) -> u32
-    requires { ⌜ k < 2048 ⌝ }
-    ensures { λ r. ⌜ r ≡ soundKind (heldRecord (now (held .entry)) k) last ⌝ }
-{
-    let from = 8 * k;
-    if held.len() < from + 8 {
-        return 0;
-    }
-    let to = from + 8;
-    sound_kind(&held[from..to], last)
-}
-
-fn file_kind(bytes: &[u8], k: usize, last: u32) -> u32
-    requires { ⌜ k < 2048 ⌝ }
-    ensures { λ r. ⌜ r ≡ soundKind (fileRecord (now (bytes .entry)) k) last ⌝ }
-{
-    let from = 32 * k;
-    if bytes.len() < from + 32 {
-        return 0;
-    }
-    let mut words = [0u32; 8];
-    let to = from + 32;
-    copy_words(&bytes[from..to], &mut words);
-    sound_kind(&words, last)
-}
-
-// The first bad one of n records, or n.
-fn first_bad_held(held: &[u32], n: usize) -> usize
-    requires { ⌜ n ≤ 2048 ⌝ }
-    ensures { λ r. ⌜ r ≡ least (badAt (heldRecord (now (held .entry)))) n ⌝ }
-{
-    let mut last: u32 = 0;
-    let mut k: usize = 0;
-    while k < n {
-        last = held_kind(held, k, last);
-        if last == 0 {
-            return k;
-        }
-        k += 1;
-    }
-    k
-}
-
-fn first_bad_file(bytes: &[u8], n: usize) -> usize
-    requires { ⌜ n ≤ 2048 ⌝ }
-    ensures { λ r. ⌜ r ≡ least (badAt (fileRecord (now (bytes .entry)))) n ⌝ }
-{
-    let mut last: u32 = 0;
-    let mut k: usize = 0;
-    while k < n {
-        last = file_kind(bytes, k, last);
-        if last == 0 {
-            return k;
-        }
-        k += 1;
-    }
-    k
-}
-
-// ---- the calls
+// ---- all records of a surface, which is lent as `bytes` or as `held`, by its form
 
 // How many of `size` elements there are in n, a part one counted.
 fn count_parts(n: usize, size: usize) -> usize
@@ -204,36 +237,120 @@ fn count_parts(n: usize, size: usize) -> usize
     n / size + 1
 }
 
-// What is said of n records whose first bad one is k, n where there is none.
-fn bad_record(k: usize, n: usize) -> Check
-    ensures { λ r. ⌜ found r ≡ refuse (ltb k n) 5 k fine ⌝ }
+// How many there are, a part one counted.
+fn count_records(form: Form, bytes: &[u8], held: &[u32]) -> usize
+    ensures { λ r. ⌜ r ≡ countIn form (now (bytes .entry)) (now (held .entry)) ⌝ }
+{
+    match form {
+        Form::File => count_parts(bytes.len(), 32),
+        Form::Held => count_parts(held.len(), 8),
+    }
+}
+
+// How many of them are whole.
+fn count_whole(form: Form, bytes: &[u8], held: &[u32]) -> usize
+    ensures { λ r. ⌜ r ≡ wholeIn form (now (bytes .entry)) (now (held .entry)) ⌝ }
+{
+    match form {
+        Form::File => bytes.len() / 32,
+        Form::Held => held.len() / 8,
+    }
+}
+
+// Whole record k.
+fn record_at(form: Form, bytes: &[u8], held: &[u32], k: usize) -> Record
+    requires { ⌜ k < wholeIn form (now bytes) (now held) ⌝ }
+    ensures { λ r. ⌜ r .words ≡ recordIn form (now (bytes .entry)) (now (held .entry)) k ⌝ }
+{
+    match form {
+        Form::File => file_record(bytes, k),
+        Form::Held => held_record(held, k),
+    }
+}
+
+// The first bad one of the whole records, or their number: a part one after them is bad.
+fn first_bad(form: Form, bytes: &[u8], held: &[u32]) -> usize
+    ensures { λ r. let bs = now (bytes .entry) in let ws = now (held .entry) in ⌜ r ≡ least (badAt form (recordIn form bs ws)) (wholeIn form bs ws) ⌝ }
+{
+    let n = count_whole(form, bytes, held);
+    let mut last: u32 = 0;
+    let mut k: usize = 0;
+    while k < n {
+        last = sound_kind(form, record_at(form, bytes, held, k), last);
+        if last == 0 {
+            return k;
+        }
+        k += 1;
+    }
+    k
+}
+
+// A bad record where k is one of n, else what comes after.
+fn bad_record_if(k: usize, n: usize, after: Check) -> Check
+    ensures { λ r. ⌜ found r ≡ refuse (ltb k n) 5 k (found after) ⌝ }
 {
     if k < n {
         return Check::Faulty(Refusal::BadRecord(k));
     }
-    Check::Fine
+    after
+}
+
+// Why the records are turned back, if they are: the faults in their order. More records than the most
+// are not read.
+fn surface_fault(form: Form, bytes: &[u8], held: &[u32]) -> Check
+    ensures { λ r. let bs = now (bytes .entry) in let ws = now (held .entry) in ⌜ found r ≡ surfaceFault form (countIn form bs ws) (recordIn form bs ws) ⌝ }
+{
+    let n = count_records(form, bytes, held);
+    if RECORDS < n {
+        return Check::Faulty(Refusal::Oversize(RECORDS));
+    }
+    bad_record_if(first_bad(form, bytes, held), n, Check::Fine)
 }
 
 // Why held words are turned back, if they are.
 pub fn held_fault(held: &[u32]) -> Check
     ensures { λ r. ⌜ found r ≡ heldFault (now (held .entry)) ⌝ }
 {
-    let n = count_parts(held.len(), 8);
-    if 2048 < n {
-        return Check::Faulty(Refusal::Oversize(2048));
-    }
-    bad_record(first_bad_held(held, n), n)
+    let no_bytes: [u8; 0] = [];
+    surface_fault(Form::Held, &no_bytes, held)
 }
 
 // Why a file is turned back, if it is.
 pub fn file_fault(bytes: &[u8]) -> Check
     ensures { λ r. ⌜ found r ≡ fileFault (now (bytes .entry)) ⌝ }
 {
-    let n = count_parts(bytes.len(), 32);
-    if 2048 < n {
-        return Check::Faulty(Refusal::Oversize(2048));
+    let no_words: [u32; 0] = [];
+    surface_fault(Form::File, bytes, &no_words)
+}
+
+// ---- the calls
+
+// The words held of a file, to the front of `held`.
+fn copy_words(bytes: &[u8], held: &mut [u32])
+    requires { ⌜ (length (now bytes) % 32 ≡ 0) × (length (now bytes) / 4 ≤ length (now held)) ⌝ }
+    ensures { λ r. ⌜ Put (now (held .entry)) (now (held .exit)) 0 (wordsOf (now (bytes .entry))) (length (now (bytes .entry)) / 4) ⌝ }
+{
+    let n = bytes.len() / 32;
+    let mut at: usize = 0;
+    let mut k: usize = 0;
+    while k < n {
+        at = put_held(held, at, held_of(file_record(bytes, k)));
+        k += 1;
     }
-    bad_record(first_bad_file(bytes, n), n)
+}
+
+// The file's bytes of held words, to the front of `bytes`.
+fn copy_bytes(held: &[u32], bytes: &mut [u8])
+    requires { ⌜ (length (now held) % 8 ≡ 0) × (4 * length (now held) ≤ length (now bytes)) ⌝ }
+    ensures { λ r. ⌜ Put (now (bytes .entry)) (now (bytes .exit)) 0 (bytesOf (now (held .entry))) (4 * length (now (held .entry))) ⌝ }
+{
+    let n = held.len() / 8;
+    let mut at: usize = 0;
+    let mut k: usize = 0;
+    while k < n {
+        at = put_file(bytes, at, file_of(held_record(held, k)));
+        k += 1;
+    }
 }
 
 // The words of a file into `held`.

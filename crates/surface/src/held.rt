@@ -7,9 +7,24 @@ ghost use lib.ListN.{length};
 ghost use Rattle.shape.specs.Memory.{Put};
 ghost use Rattle.shape.specs.Lists.{wordOf};
 ghost use Rattle.surface.specs.File.{wordsOf};
-ghost use Rattle.surface.specs.Held.{countKind, sizesOf, singleIn, verticesOf, normalsOf, indicesOf, laneOf, questionAt, pointsOf};
+ghost use Rattle.surface.specs.Held.{cornersWord, countKind, sizesOf, singleIn, verticesOf, normalsOf, indicesOf, laneOf, questionAt, pointsOf};
+use crate::file::QUESTION;
+use crate::file::TRIANGLE;
+use crate::file::VERTEX;
 use crate::file::word_at;
 use rounding::bits::from_bits32;
+
+// The words of a record as it is held, of three or two in a row the first: of a vertex, of a triangle, and
+// of a question.
+const PLACE: usize = 1;
+
+const NORMAL: usize = 4;
+
+const CORNERS: usize = 1;
+
+const LANE: usize = 4;
+
+const POINT: usize = 1;
 
 // How many records of each kind there are.
 pub struct Sizes {
@@ -74,9 +89,9 @@ pub(crate) fn counts(bytes: &[u8]) -> Sizes
     ensures { λ r. ⌜ (r .vertices ≤ 2048) × (r .triangles ≤ 2048) × (r .questions ≤ 2048) ⌝ }
 {
     Sizes {
-        vertices: count_kind(bytes, 1),
-        triangles: count_kind(bytes, 2),
-        questions: count_kind(bytes, 3),
+        vertices: count_kind(bytes, VERTEX),
+        triangles: count_kind(bytes, TRIANGLE),
+        questions: count_kind(bytes, QUESTION),
     }
 }
 
@@ -85,7 +100,7 @@ pub(crate) fn counts(bytes: &[u8]) -> Sizes
 // Three singles from word j of record k on, from `at` of `out` on.
 fn put_singles(bytes: &[u8], k: usize, j: usize, out: &mut [f32], at: usize) -> usize
     requires { ⌜ (k < 2 ^ 40) × (j < 6) × (at + 3 ≤ length (now out)) ⌝ }
-    ensures { λ r. ⌜ Put (now (out .entry)) (now (out .exit)) at (singleIn (wordsOf (now (bytes .entry))) k j ∷ singleIn (wordsOf (now (bytes .entry))) k (j + 1) ∷ singleIn (wordsOf (now (bytes .entry))) k (j + 2) ∷ []) r ⌝ }
+    ensures { λ r. let ws = wordsOf (now (bytes .entry)) in ⌜ Put (now (out .entry)) (now (out .exit)) at (singleIn ws k j ∷ singleIn ws k (j + 1) ∷ singleIn ws k (j + 2) ∷ []) r ⌝ }
 {
     out[at] = single(bytes, k, j);
     out[at + 1] = single(bytes, k, j + 1);
@@ -102,7 +117,7 @@ pub(crate) fn unpack_vertices(bytes: &[u8], sizes: Sizes, out: &mut [f32])
     let mut at: usize = 0;
     let mut k: usize = 0;
     while k < n {
-        at = put_singles(bytes, k, 1, out, at);
+        at = put_singles(bytes, k, PLACE, out, at);
         k += 1;
     }
 }
@@ -116,7 +131,7 @@ pub(crate) fn unpack_normals(bytes: &[u8], sizes: Sizes, out: &mut [f32])
     let mut at: usize = 0;
     let mut k: usize = 0;
     while k < n {
-        at = put_singles(bytes, k, 4, out, at);
+        at = put_singles(bytes, k, NORMAL, out, at);
         k += 1;
     }
 }
@@ -124,11 +139,11 @@ pub(crate) fn unpack_normals(bytes: &[u8], sizes: Sizes, out: &mut [f32])
 // The corners of record k, from `at` of `out` on.
 fn put_corners(bytes: &[u8], k: usize, out: &mut [u32], at: usize) -> usize
     requires { ⌜ (k < 2 ^ 40) × (at + 3 ≤ length (now out)) ⌝ }
-    ensures { λ r. ⌜ Put (now (out .entry)) (now (out .exit)) at (wordOf 8 (wordsOf (now (bytes .entry))) k 1 ∷ wordOf 8 (wordsOf (now (bytes .entry))) k 2 ∷ wordOf 8 (wordsOf (now (bytes .entry))) k 3 ∷ []) r ⌝ }
+    ensures { λ r. let ws = wordsOf (now (bytes .entry)) in ⌜ Put (now (out .entry)) (now (out .exit)) at (wordOf 8 ws k cornersWord ∷ wordOf 8 ws k (cornersWord + 1) ∷ wordOf 8 ws k (cornersWord + 2) ∷ []) r ⌝ }
 {
-    out[at] = word(bytes, k, 1);
-    out[at + 1] = word(bytes, k, 2);
-    out[at + 2] = word(bytes, k, 3);
+    out[at] = word(bytes, k, CORNERS);
+    out[at + 1] = word(bytes, k, CORNERS + 1);
+    out[at + 2] = word(bytes, k, CORNERS + 2);
     at + 3
 }
 
@@ -154,7 +169,7 @@ pub(crate) fn lane_of(bytes: &[u8], sizes: Sizes, t: usize) -> u32
     requires { ⌜ (length (wordsOf (now bytes)) ≤ 16384) × (sizes ≡ sizesOf (wordsOf (now bytes))) × (t < 2 ^ 32) ⌝ }
     ensures { λ r. ⌜ r ≡ laneOf (wordsOf (now (bytes .entry))) t ⌝ }
 {
-    word(bytes, sizes.vertices + t, 4)
+    word(bytes, sizes.vertices + t, LANE)
 }
 
 // Where question k asks.
@@ -164,8 +179,8 @@ pub(crate) fn question_at(bytes: &[u8], sizes: Sizes, k: usize) -> Question
 {
     let record = sizes.vertices + sizes.triangles + k;
     Question {
-        x: single(bytes, record, 1),
-        y: single(bytes, record, 2),
+        x: single(bytes, record, POINT),
+        y: single(bytes, record, POINT + 1),
     }
 }
 

@@ -15,7 +15,8 @@ use Rattle.shape.specs.Refusal.{fine}
 use Rattle.shape.specs.Lists.{wordOf}
 use Rattle.shape.specs.Laws.Gather.{gather-even, or-left, or-right}
 use Rattle.surface.specs.declared.held.Sizes.{Sizes}
-use Rattle.surface.specs.File.{kindOf, spareFrom, spareUsed, badRecord, kindBefore, badAt, parts, heldRecord, heldFault}
+use Rattle.surface.specs.declared.file.Form.the-variants.{Held}
+use Rattle.surface.specs.File.{kindOf, spareUsed, badRecord, kindBefore, badAt, parts, heldRecord, heldFault}
 use Rattle.surface.specs.Held.{howMany, isKind, countKind, sizesOf, placeIn, normalIn, cornersIn, verticesOf, normalsOf, indicesOf}
 use Rattle.surface.specs.Laws.File.{faultless, whole-held}
 use Rattle.surface.specs.Laws.Records.{positive}
@@ -186,12 +187,12 @@ module _ (ws : List ℕ) where
     three : kindAt ws k ≤ 3
     rise : kindBefore (heldRecord ws) k ≤ kindAt ws k
 
-  judged : (k : ℕ) → badAt (heldRecord ws) k ≡ false → Judged k
+  judged : (k : ℕ) → badAt Held (heldRecord ws) k ≡ false → Judged k
   unfolding badAt badRecord
   judged k e =
       let r = heldRecord ws k in
       let last = kindBefore (heldRecord ws) k in
-      let spare = any (spareUsed r) (8 - spareFrom (kindOf r)) in
+      let spare = any (spareUsed Held r) 8 in
       let e₁ = or-right (ltb (length r) 8) (eqb (kindOf r) 0 || (ltb 3 (kindOf r) || (ltb (kindOf r) last || spare))) e in
       let e₂ = or-right (eqb (kindOf r) 0) (ltb 3 (kindOf r) || (ltb (kindOf r) last || spare)) e₁ in
       let e₃ = or-right (ltb 3 (kindOf r)) (ltb (kindOf r) last || spare) e₂ in
@@ -206,7 +207,7 @@ module _ (ws : List ℕ) where
     rising : Rising (kindAt ws) (length ws / 8)
     unfolding heldFault parts kindBefore
     rising =
-        let s = faultless ((length ws + 7) / 8) (heldRecord ws) e in
+        let s = faultless Held ((length ws + 7) / 8) (heldRecord ws) e in
         let n : (length ws + 7) / 8 ≡ length ws / 8 = omega (arith, whole-held ws e) in
         let at : (k : ℕ) → k < length ws / 8 → Judged k = λ k h. judged k (s .sound k (omega arith)) in
         record {

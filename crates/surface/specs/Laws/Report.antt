@@ -29,7 +29,7 @@ use Rattle.surface.specs.File.{wordsOf, fileFault, copyOf, readCopied}
 use Rattle.surface.specs.Held.{howMany, isKind, countKind, verticesOf, normalsOf, indicesOf, laneOf, questionAt, pointIn, pointsOf}
 use Rattle.surface.specs.Report.{meshIn, indexIn, given, sampleAt, lineOf, lineAt, answeredAt, linesOf, orRefused, reportOf, reportAnswer}
 use Rattle.surface.specs.ReportSteps.{recordIn, recordsIn}
-use Rattle.surface.specs.Laws.File.{words-length, whole-file, copied}
+use Rattle.surface.specs.Laws.File.{gather-within, words-length, whole-file, copied}
 use Rattle.surface.specs.Laws.Held.{howMany-le, vertices-length, normals-length, indices-length}
 use Rattle.surface.specs.Laws.Text.{found-few, none-few, asked-few, refused-few}
 
@@ -123,12 +123,6 @@ module _ (ws : List ℕ) where
     pub point-y : getD (pointsOf ws) (2 * k + 1) nan ≡ questionAt ws k .y
     unfolding pointIn
     point-y = point-at 1 (omega arith)
-
--- the same is gathered where each gives the same
-gather-within : (f g : ℕ → List ℕ) (n : ℕ) → ((k : ℕ) → k < n → f k ≡ g k) → gather f n ≡ gather g n
-unfolding gather
-gather-within f g zero h = refl
-gather-within f g (suc n) h = rw (gather-within f g n (λ k l. h k (omega arith)), h n (omega arith))
 
 -- ---- the lookups
 

@@ -1,51 +1,71 @@
--- `surface::file::copy_bytes` meets its contract: the bytes of the first i words are put. Assumes nothing.
+-- `surface::file::copy_bytes` meets its contract: the first k records are put. Assumes nothing.
 use mathlib.Core.Path.{_≡_, refl}
-use Prim.Native.Nat.{_-_, _*_, _≤_}
+use Prim.Native.Nat.{_+_, _-_, _*_, _/_, _≤_}
 use denote.Ref.{now}
-use lib.ListN.{length, getD}
+use lib.ListN.{length}
 use Rattle.shape.specs.Gather.{gather}
 use Rattle.shape.specs.Memory.{Put}
 use Rattle.shape.specs.Laws.Memory.{put-none, put-turn, put-length}
-use Rattle.surface.specs.File.{fourBytes, bytesOf}
+use Rattle.surface.specs.File.{encode, fileAt, bytesOf, parts}
+use Rattle.surface.specs.Laws.File.{encode-length}
+use Rattle.surface.specs.Laws.Records.{file-eight}
 use native.Mathlib.Omega.{arith}
 use Rattle.surface.proofs.file.copy_bytes.Statement.{statement}
 use Rattle.surface.proofs.file.copy_bytes.Tie as tie
+use Rattle.surface.proofs.file.copy_bytes.Reads as reads
+use Rattle.surface.proofs.file.copy_bytes.Lts as lts
+use Rattle.surface.proofs.file.file_of.Reads as file-of-reads
+use Rattle.surface.proofs.file.held_record.Reads as held-record-reads
+use Rattle.surface.proofs.file.put_file.Reads as put-file-reads
 
 abbrev Inv-loop : tie.InvT-loop
-Inv-loop held bytes₀ at₀ i₀ bytes at i = Put bytes₀ bytes 0 (gather (λ k. fourBytes (getD held k 0)) i) at × (at ≡ 4 * i) × (i ≤ length held)
+Inv-loop held bytes₀ n at₀ k₀ bytes at k = Put bytes₀ bytes 0 (gather (λ k. encode (fileAt held k)) k) at × (at ≡ 32 * k) × (k ≤ n) × (n ≡ length held / 8)
 
 abbrev μ-loop : tie.MeasureT-loop
-μ-loop held bytes₀ at₀ i₀ bytes at i = length held - i
+μ-loop held bytes₀ n at₀ k₀ bytes at k = n - k
 
 loop-holds : tie.Need-loop-holds Inv-loop μ-loop
 unfolding gather
-loop-holds c = (put-none _ 0, refl, omega arith)
+loop-holds c = (put-none _ 0, refl, omega arith, refl)
 
-mul-put-word : tie.Need-mul-put-word Inv-loop μ-loop
-mul-put-word c = omega arith
+held-record-requires : tie.Need-held-record-requires Inv-loop μ-loop
+held-record-requires c κs = omega arith
 
-shared-slice-read-put-word : tie.Need-shared-slice-read-put-word Inv-loop μ-loop
-shared-slice-read-put-word c = omega arith
+file-of-requires : tie.Need-file-of-requires Inv-loop μ-loop
+file-of-requires c κs = omega arith
 
-put-word-requires : tie.Need-put-word-requires Inv-loop μ-loop
-put-word-requires c κs = omega (arith, put-length (c .before .before .before .loop .inv .0))
+put-file-requires : tie.Need-put-file-requires Inv-loop μ-loop
+put-file-requires c κs =
+    let l = c .before .before .before .before .loop in
+    let z = file-eight _ (l .k) (omega (arith, l .inv)) (c .before .held-record .ensures) (c .file-of .ensures) in
+    (omega (arith, put-length (l .inv .0), l .inv, c .before .before .before .before .before .before .before .pre), z .1)
 
-add-i : tie.Need-add-i Inv-loop μ-loop
-add-i c = omega arith
+add-k : tie.Need-add-k Inv-loop μ-loop
+add-k c = omega arith
 
 loop-less : tie.Need-loop-less Inv-loop μ-loop
 loop-less c = omega arith
 
 loop-again : tie.Need-loop-again Inv-loop μ-loop
-unfolding fourBytes
-loop-again c = (put-turn (λ k. fourBytes (getD (now (c .before .before .before .before .before .before .before .before .before .args .held)) k 0)) (c .before .before .before .before .before .before .loop .i) (c .before .before .before .before .before .before .loop .inv .0) (c .before .before .put-word .ensures), omega (arith, c .before .before .put-word .ensures .ends), omega arith)
+loop-again c =
+    let l = c .before .before .before .before .before .before .before .loop in
+    let xs = now (c .before .before .before .before .before .before .before .before .before .before .args .held) in
+    let z = file-eight xs (l .k) (omega (arith, l .inv)) (c .before .before .before .before .held-record .ensures) (c .before .before .before .file-of .ensures) in
+    let p = c .before .before .put-file .ensures in
+    (put-turn (λ k. encode (fileAt xs k)) (l .k) (l .inv .0) (rw (z .0) at p), omega (arith, p .ends, encode-length (c .before .before .before .file-of .result .words), z .1, l .inv), omega arith, l .inv .3)
 
 same-length : tie.Need-same-length Inv-loop μ-loop
 same-length c = put-length (c .before .loop .inv .0)
 
 returns : tie.Need-returns Inv-loop μ-loop
-unfolding bytesOf
-returns c = let e : c .before .loop .i ≡ length (now (c .before .before .before .before .args .held)) = omega (arith, c .before .loop .inv .2) in let f : c .before .loop .at ≡ 4 * length (now (c .before .before .before .before .args .held)) = omega (arith, c .before .loop .inv .1) in rw (e, f) at (c .before .loop .inv .0)
+unfolding bytesOf parts
+returns c =
+    let l = c .before .loop in
+    let s = c .before .before .before .before in
+    let xs = now (s .args .held) in
+    let e : l .k ≡ (length xs + 7) / 8 = omega (arith, l .inv, s .pre) in
+    let f : l .at ≡ 4 * length xs = omega (arith, l .inv, s .pre) in
+    rw (e, f) at (l .inv .0)
 
 pub copy-bytes-spec : {M : Type 1} → statement M
 copy-bytes-spec =
@@ -54,10 +74,10 @@ copy-bytes-spec =
     Inv-loop
     μ-loop
     loop-holds
-    mul-put-word
-    shared-slice-read-put-word
-    put-word-requires
-    add-i
+    held-record-requires
+    file-of-requires
+    put-file-requires
+    add-k
     loop-less
     loop-again
     same-length

@@ -1,29 +1,19 @@
--- `surface::file::file_fault` meets its contract, by the test that led to each return. Assumes nothing.
-use borrow.Author.Tests.{lt-ltb, le-ltb}
-use Rattle.shape.specs.Refusal.{found, numberOf, placeOf, refuse}
-use Rattle.surface.specs.File.{recordFault, fileFault}
+-- `surface::file::file_fault` meets its contract: the fault of that form. Assumes nothing.
+use Rattle.surface.specs.File.{fileFault}
+use Rattle.surface.specs.FileSteps.{countIn, recordIn}
 use borrow.Author.Needs.{needs}
 use Rattle.surface.proofs.file.file_fault.Statement.{statement}
 use Rattle.surface.proofs.file.file_fault.Tie as tie
 
-count-parts-requires : tie.Need-count-parts-requires
-count-parts-requires c κs = search needs
+slice-aggregate-surface-fault : tie.Need-slice-aggregate-surface-fault
+slice-aggregate-surface-fault c = search needs
+
+surface-fault-requires : tie.Need-surface-fault-requires
+surface-fault-requires c κs = search needs
 
 returns : tie.Need-returns
-unfolding fileFault recordFault refuse found numberOf placeOf
-returns c = rw (← (c .before .count-parts .ensures), lt-ltb _ _ (c .if1 .taken))
-
-first-bad-file-requires : tie.Need-first-bad-file-requires
-first-bad-file-requires c κs = search needs
-
-bad-record-requires : tie.Need-bad-record-requires
-bad-record-requires c κs = search needs
-
-returns-2 : tie.Need-returns-2
-unfolding fileFault recordFault refuse
-returns-2 c = rw (← (c .before .before .before .count-parts .ensures), le-ltb _ _ (c .before .before .if1 .left), ← (c .before .first-bad-file .ensures)) (c .bad-record .ensures)
+unfolding fileFault countIn recordIn
+returns c = c .surface-fault .ensures
 
 pub file-fault-spec : {M : Type 1} → statement M
-file-fault-spec =
-    tie.close
-    (tie.spec count-parts-requires returns first-bad-file-requires bad-record-requires returns-2)
+file-fault-spec = tie.close (tie.spec slice-aggregate-surface-fault surface-fault-requires returns)

@@ -2,8 +2,9 @@
 use mathlib.Core.Path.{sym}
 use denote.Ref.{now}
 use Rattle.surface.specs.File.{fileFault, wordsOf, readOf}
-use Rattle.surface.specs.Laws.File.{words-length}
+use Rattle.surface.specs.Laws.File.{words-length, whole-file}
 use Rattle.surface.proofs.Copies.{sound, faulty, said-faulty, said-short, said-copied}
+use native.Mathlib.Omega.{arith}
 use borrow.Author.Needs.{needs}
 use Rattle.surface.proofs.file.read.Statement.{statement}
 use Rattle.surface.proofs.file.read.Tie as tie
@@ -16,24 +17,39 @@ enum-known-check c = search needs
 
 returns : tie.Need-returns
 unfolding readOf
-returns c = let a = c .before .before .before .before .before .before .args in let f = fileFault (now (a .bytes)) in let r = wordsOf (now (a .bytes)) in let o = now (a .held) in said-faulty f r o _ (faulty (c .before .check .given .1) (c .before .before .before .file-fault .ensures))
+returns c =
+    let a = c .before .before .before .before .before .before .args in
+    let f = fileFault (now (a .bytes)) in
+    let r = wordsOf (now (a .bytes)) in
+    let o = now (a .held) in
+    said-faulty f r o _ (faulty (c .before .check .given .1) (c .before .before .before .file-fault .ensures))
 
 enum-told : tie.Need-enum-told
 enum-told c = search needs
 
 returns-2 : tie.Need-returns-2
 unfolding readOf
-returns-2 c = let a = c .before .before .before .before .before .before .args in let f = fileFault (now (a .bytes)) in let r = wordsOf (now (a .bytes)) in let o = now (a .held) in said-short f r o _ (sound (c .before .enum-told .given .1) (c .before .before .before .file-fault .ensures)) (sym (words-length (now (a .bytes)))) (c .if1 .taken)
+returns-2 c =
+    let a = c .before .before .before .before .before .before .args in
+    let f = fileFault (now (a .bytes)) in
+    let r = wordsOf (now (a .bytes)) in
+    let o = now (a .held) in
+    said-short f r o _ (sound (c .before .enum-told .given .1) (c .before .before .before .file-fault .ensures)) (sym (words-length (now (a .bytes)))) (c .if1 .taken)
 
 copy-words-requires : tie.Need-copy-words-requires
-copy-words-requires c κs = search needs
+copy-words-requires c κs = (whole-file _ (sound (c .before .before .enum-told .given .1) (c .before .before .before .before .file-fault .ensures)) .0, omega (arith, c .before .if1 .left))
 
 same-length : tie.Need-same-length
 same-length c = search needs
 
 returns-3 : tie.Need-returns-3
 unfolding readOf
-returns-3 c = let a = c .before .before .before .before .before .before .before .before .before .before .args in let f = fileFault (now (a .bytes)) in let r = wordsOf (now (a .bytes)) in let o = now (a .held) in said-copied f r o _ _ (sound (c .before .before .before .before .before .enum-told .given .1) (c .before .before .before .before .before .before .before .file-fault .ensures)) (sym (words-length (now (a .bytes)))) (c .before .before .before .before .if1 .left) (c .before .before .copy-words .ensures)
+returns-3 c =
+    let a = c .before .before .before .before .before .before .before .before .before .before .args in
+    let f = fileFault (now (a .bytes)) in
+    let r = wordsOf (now (a .bytes)) in
+    let o = now (a .held) in
+    said-copied f r o _ _ (sound (c .before .before .before .before .before .enum-told .given .1) (c .before .before .before .before .before .before .before .file-fault .ensures)) (sym (words-length (now (a .bytes)))) (c .before .before .before .before .if1 .left) (c .before .before .copy-words .ensures)
 
 pub read-spec : {M : Type 1} → statement M
 read-spec =

@@ -1,48 +1,46 @@
--- `surface::file::spare_used` meets its contract: no spare word before the one looked at is used. Assumes nothing.
-use mathlib.Core.Path.{_≡_, refl, sym}
+-- `surface::file::spare_used` meets its contract: no word before the one looked at is spare and used. Assumes nothing.
+use mathlib.Core.Path.{_≡_, refl, sym, _∙_}
 use mathlib.Core.Bool.{false}
-use Prim.Native.Nat.{_+_, _-_, _≤_}
-use denote.Ref.{now}
-use borrow.Author.Tests.{eq-eqb, ne-eqb}
-use lib.ListN.{getD}
+use Prim.Native.Nat.{_-_, _≤_}
+use lib.ListN.{length, getD}
 use Rattle.shape.specs.Gather.{any}
 use Rattle.shape.specs.Laws.Gather.{any-next, any-some}
-use Rattle.surface.specs.File.{spareFrom, spareUsed}
+use Rattle.surface.specs.File.{spareUsed}
 use native.Mathlib.Omega.{arith}
 use Rattle.surface.proofs.file.spare_used.Statement.{statement}
 use Rattle.surface.proofs.file.spare_used.Tie as tie
+use Rattle.surface.proofs.file.spare_used.Reads as reads
+use Rattle.surface.proofs.file.spare_used.Lts as lts
+use Rattle.surface.proofs.file.spare_filled.Reads as spare-filled-reads
 
 abbrev Inv-loop : tie.InvT-loop
-Inv-loop words from j₀ j = (any (spareUsed words) j ≡ false) × (from ≡ spareFrom (getD words 0 0)) × (from + j ≤ 8)
+Inv-loop form words kind j₀ j = (any (spareUsed form words) j ≡ false) × (kind ≡ getD words 0 0) × (j ≤ 8)
 
 abbrev μ-loop : tie.MeasureT-loop
-μ-loop words from j₀ j = 8 - (from + j)
+μ-loop form words kind j₀ j = 8 - j
 
-shared-slice-read-spare-from : tie.Need-shared-slice-read-spare-from Inv-loop μ-loop
-shared-slice-read-spare-from c = omega arith
-
-spare-from-requires : tie.Need-spare-from-requires Inv-loop μ-loop
-spare-from-requires c κs = omega arith
+array-read-kind : tie.Need-array-read-kind Inv-loop μ-loop
+array-read-kind c = omega arith
 
 loop-holds : tie.Need-loop-holds Inv-loop μ-loop
 unfolding any
-loop-holds c = (refl, c .spare-from .ensures .0, omega arith)
+loop-holds c = (refl, refl, omega arith)
 
-add-loop : tie.Need-add-loop Inv-loop μ-loop
-add-loop c = omega arith
+mul-spare-filled : tie.Need-mul-spare-filled Inv-loop μ-loop
+mul-spare-filled c = omega arith
 
-add-if1 : tie.Need-add-if1 Inv-loop μ-loop
-add-if1 c = omega arith
+array-read-spare-filled : tie.Need-array-read-spare-filled Inv-loop μ-loop
+array-read-spare-filled c = omega arith
 
-mul-if1 : tie.Need-mul-if1 Inv-loop μ-loop
-mul-if1 c = omega arith
-
-shared-slice-read-if1 : tie.Need-shared-slice-read-if1 Inv-loop μ-loop
-shared-slice-read-if1 c = omega arith
+spare-filled-requires : tie.Need-spare-filled-requires Inv-loop μ-loop
+spare-filled-requires c κs = omega arith
 
 returns : tie.Need-returns Inv-loop μ-loop
 unfolding spareUsed
-returns c = let ws = now (c .before .before .before .before .before .before .before .args .words) in let l = c .before .before .before .loop in sym (any-some (spareUsed ws) (l .j) (8 - spareFrom (getD ws 0 0)) (omega (arith, l .inv .1)) (rw (← (l .inv .1), ne-eqb _ _ (c .if1 .taken))))
+returns c =
+    let l = c .before .before .before .loop in
+    let a = c .before .before .before .before .before .args in
+    sym (any-some (spareUsed (a .form) (a .r .words)) (l .j) 8 (omega arith) (rw (← (l .inv .1)) (sym (c .before .spare-filled .ensures) ∙ c .if1 .taken)))
 
 add-j : tie.Need-add-j Inv-loop μ-loop
 add-j c = omega arith
@@ -52,10 +50,13 @@ loop-less c = omega arith
 
 loop-again : tie.Need-loop-again Inv-loop μ-loop
 unfolding spareUsed
-loop-again c = let ws = now (c .before .before .before .before .before .before .before .args .words) in let l = c .before .before .before .loop in (rw (any-next (spareUsed ws) (l .j), l .inv .0, ← (l .inv .1), eq-eqb _ _ (c .if1 .left)), l .inv .1, omega arith)
+loop-again c =
+    let l = c .before .before .before .loop in
+    let a = c .before .before .before .before .before .args in
+    (rw (any-next (spareUsed (a .form) (a .r .words)) (l .j), l .inv .0, ← (l .inv .1)) (sym (c .before .spare-filled .ensures) ∙ c .if1 .left), l .inv .1, omega arith)
 
 returns-2 : tie.Need-returns-2 Inv-loop μ-loop
-returns-2 c = let ws = now (c .before .before .before .before .before .args .words) in let l = c .before .loop in let e : l .j ≡ 8 - spareFrom (getD ws 0 0) = omega (arith, l .inv .1) in sym (rw e at (l .inv .0))
+returns-2 c = let l = c .before .loop in let e : l .j ≡ 8 = omega (arith, l .inv .2) in sym (rw e at (l .inv .0))
 
 pub spare-used-spec : {M : Type 1} → statement M
 spare-used-spec =
@@ -63,13 +64,11 @@ spare-used-spec =
     (tie.spec
     Inv-loop
     μ-loop
-    shared-slice-read-spare-from
-    spare-from-requires
+    array-read-kind
     loop-holds
-    add-loop
-    add-if1
-    mul-if1
-    shared-slice-read-if1
+    mul-spare-filled
+    array-read-spare-filled
+    spare-filled-requires
     returns
     add-j
     loop-less

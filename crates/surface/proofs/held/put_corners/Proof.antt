@@ -16,6 +16,9 @@ mul-out c = search needs
 slice-write-out : tie.Need-slice-write-out
 slice-write-out c = search needs
 
+add-word : tie.Need-add-word
+add-word c = search needs
+
 word-requires-2 : tie.Need-word-requires-2
 word-requires-2 c κs = search needs
 
@@ -27,6 +30,9 @@ mul-out-2 c = search needs
 
 slice-write-out-2 : tie.Need-slice-write-out-2
 slice-write-out-2 c = simp length-set (omega arith)
+
+add-word-2 : tie.Need-add-word-2
+add-word-2 c = search needs
 
 word-requires-3 : tie.Need-word-requires-3
 word-requires-3 c κs = search needs
@@ -56,10 +62,12 @@ put-corners-spec =
     word-requires
     mul-out
     slice-write-out
+    add-word
     word-requires-2
     add-out
     mul-out-2
     slice-write-out-2
+    add-word-2
     word-requires-3
     add-out-2
     mul-out-3

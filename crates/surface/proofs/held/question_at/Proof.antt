@@ -4,6 +4,7 @@ use Rattle.surface.specs.File.{wordsOf}
 use Rattle.surface.specs.Held.{questionRecord, questionAt}
 use Rattle.surface.specs.Laws.Held.{sized}
 use native.Mathlib.Omega.{arith}
+use borrow.Author.Needs.{needs}
 use Rattle.surface.proofs.held.question_at.Statement.{statement}
 use Rattle.surface.proofs.held.question_at.Tie as tie
 
@@ -16,6 +17,9 @@ add-record-2 c = let s = c .before .before in let z = sized (wordsOf (now (s .ar
 single-requires : tie.Need-single-requires
 single-requires c κs = let s = c .before .before in let z = sized (wordsOf (now (s .args .bytes))) (s .args .sizes) (s .pre .1) in omega (arith, z .vertices-few, z .triangles-few, s .pre)
 
+add-single : tie.Need-add-single
+add-single c = search needs
+
 single-requires-2 : tie.Need-single-requires-2
 single-requires-2 c κs = let s = c .before .before .before in let z = sized (wordsOf (now (s .args .bytes))) (s .args .sizes) (s .pre .1) in omega (arith, z .vertices-few, z .triangles-few, s .pre)
 
@@ -25,4 +29,4 @@ returns c = let s = c .before .before .before .before in let z = sized (wordsOf 
 
 pub question-at-spec : {M : Type 1} → statement M
 question-at-spec =
-    tie.close (tie.spec add-record add-record-2 single-requires single-requires-2 returns)
+    tie.close (tie.spec add-record add-record-2 single-requires add-single single-requires-2 returns)
