@@ -1,15 +1,16 @@
 -- Small cases of the indexed lookup, computed: document 01's case of a point past the rim, which the plain lookup answers and the indexed one does not, the
--- lanes of triangles, and the order in which a call for many points is judged. Assumes nothing.
+-- lanes of triangles, the words of records, and the order in which a call for many points is judged. Assumes nothing.
 use mathlib.Core.Path.{_≡_, refl, ap, _∙_}
 use mathlib.Core.List.{List, [], _∷_}
 use Prim.Native.Nat.{ℕ, _≤_}
 use lib.ListN.{length}
-use lib.Ieee.{Float, add, sub, mul, div, lt, le, eq, neg, ofBits}
+use lib.Ieee.{Float, binary32, toBits, add, sub, mul, div, lt, le, eq, neg, ofBits}
 use Rattle.rounding.specs.Extremes.{minOf, maxOf, absOf}
 use Rattle.shape.specs.Gather.{any}
 use Rattle.shape.specs.Refusal.{taken, refused, refuse, orElse, judge}
 use Rattle.shape.specs.Lists.{Mesh, meshLists, pointAt, wordOf, longer, uneven, runBad, meshLimits, meshRagged}
 use Rattle.vector.specs.Single.{single, 0f, 1f}
+use Rattle.vector.specs.declared.coords.Vector.{Vector}
 use Rattle.lookup.specs.declared.sampler.Lane.the-variants.{Id, None}
 use Rattle.lookup.specs.Mesh.{present, cornersOf}
 use Rattle.lookup.specs.Cover.{covers, weightsAt, weightsOf, detOf, overA, weightA, weightB, insideOf}
@@ -18,8 +19,8 @@ use Rattle.lookup.specs.Winner.{Covers}
 use Rattle.lookup.specs.Box.{aroundOf, slackOf, grownOf, grownBox, boxOf, within}
 use Rattle.lookup.specs.Frame.{joinOf, extentOf}
 use Rattle.lookup.specs.Index.{candidatesOver, candidatesOf}
-use Rattle.lookup.specs.Sampler.{topFault, pastOf, laneOf, miss, sampleOf, sampleIn, topOf}
-use Rattle.lookup.specs.Batch.{countAnswer, topsOf}
+use Rattle.lookup.specs.Sampler.{topFault, pastOf, laneOf, hit, miss, sampleOf, sampleIn, topOf}
+use Rattle.lookup.specs.Batch.{recordOf, countAnswer, topsOf}
 use Rattle.lookup.specs.Consult.{headFault, sides, declares}
 use Rattle.lookup.specs.Demand3.{BuiltFrom}
 use Rattle.lookup.specs.Laws.Plain.{answer-none}
@@ -57,6 +58,19 @@ spans = 7 ∷ 0 ∷ 4 ∷ 0 ∷ 6 ∷ 9 ∷ 4 ∷ 4 ∷ 6 ∷ 6 ∷ 4 ∷ 4 ∷ 
 lanes : (laneOf spans 0 ≡ Id 7) × (laneOf spans 1 ≡ Id 7) × (laneOf spans 2 ≡ None) × (laneOf spans 3 ≡ Id 4) × (laneOf spans 4 ≡ None)
 unfolding laneOf pastOf wordOf
 lanes = (refl, refl, refl, refl, refl)
+
+-- the words of each kind of record
+found : (h : Float) (n : Vector) (t id : ℕ)
+    → recordOf (taken (hit h n t (record { lane = Id id })))
+    ≡ 1 ∷ toBits binary32 h ∷ toBits binary32 (n .x) ∷ toBits binary32 (n .y) ∷ toBits binary32 (n .z) ∷ t ∷ 1 ∷ id ∷ []
+unfolding recordOf
+found h n t id = refl
+
+others : (number place : ℕ)
+    → (recordOf (taken miss) ≡ 0 ∷ 0 ∷ 0 ∷ 0 ∷ 0 ∷ 0 ∷ 0 ∷ 0 ∷ [])
+    × (recordOf (refused number place) ≡ 2 ∷ number ∷ place ∷ 0 ∷ 0 ∷ 0 ∷ 0 ∷ 0 ∷ [])
+unfolding recordOf
+others number place = (refl, refl)
 
 -- ---- many points: what is wrong with the whole call, of a mesh without triangles
 

@@ -150,6 +150,16 @@ module _ (vs : List Float) (is : List ℕ) (x y : Float) where
   abbrev pub Leading : (ℕ → ℕ) → ℕ → Best → Type 0
   Leading = LeadingBy (λ t. covers vs is t x y) (λ t. heightOf vs is t x y)
 
+  -- the scan turn by turn: nothing at first, and then each triangle that covers the point against the best so far
+  pub scan-none : (seq : ℕ → ℕ) → scanOf vs is x y seq zero ≡ Nothing
+  unfolding scanOf
+  scan-none seq = refl
+
+  pub scan-next : (seq : ℕ → ℕ) (i : ℕ)
+      → scanOf vs is x y seq (suc i) ≡ cond (covers vs is (seq i) x y) (higherOf (scanOf vs is x y seq i) (heightOf vs is (seq i) x y) (seq i)) (scanOf vs is x y seq i)
+  unfolding scanOf
+  scan-next seq i = refl
+
   pub scan-leads : (seq : ℕ → ℕ) (n : ℕ) → Leading seq n (scanOf vs is x y seq n)
   unfolding scanOf
   scan-leads = by-leads (λ t. covers vs is t x y) (λ t. heightOf vs is t x y)
