@@ -1,12 +1,12 @@
 // Triangles of a mesh, and the plain lookup over them. A mesh is four lent lists: the vertices'
 // coordinates and the normals' in threes, the triangles' vertex numbers in threes, and the lanes' spans.
 ghost use mathlib.Core.Path.{_≡_};
-ghost use mathlib.Core.Bool.{true, false, _&&_};
+ghost use mathlib.Core.Bool.{true, false};
 ghost use mathlib.Core.Logic.{_⊎_};
 ghost use Prim.Native.Nat.{_+_, _*_, _<_, _≤_, _^_};
 ghost use lib.ListN.{length};
 ghost use lib.Ieee.{lt};
-ghost use Rattle.shape.specs.Lists.{pointAt, meshLists};
+ghost use Rattle.shape.specs.Lists.{meshLists};
 ghost use Rattle.lookup.specs.Mesh.{cornersOf, normalAt, triangles};
 ghost use Rattle.lookup.specs.Cover.{slack, detOf, overA, weightA, weightB, weightsOf, insideOf, liftOf, faceUp, smoothOf, blendOf, flatOf, normalOf};
 ghost use Rattle.lookup.specs.Plain.{higherOf, scanOf, entryOf, readAnswer, answerOf};
@@ -14,7 +14,9 @@ ghost use Rattle.lookup.specs.Sixteen.{groundAt, Grounded, Gathered, All
 ghost use Rattle.lookup.specs.declared.mesh.Best.the-variants.{At, Nothing};
 use rounding::bits::wide;
 use rounding::extremes::abs32;
+use shape::lists::both;
 use shape::lists::mesh_fault;
+use shape::lists::point_at;
 use shape::lists::vector_at;
 use shape::lists::word_at;
 use shape::refusal::Check;
@@ -55,19 +57,6 @@ pub enum Answer {
     Refused(Refusal),
 }
 
-// Vertex i, which is there.
-pub(crate) fn vertex(vertices: &[f32], i: usize) -> Point
-    requires { ⌜ 3 * i + 2 < length (now vertices) ⌝ }
-    ensures { λ r. ⌜ r ≡ pointAt (now (vertices .entry)) i ⌝ }
-{
-    let at = 3 * i;
-    Point {
-        x: vertices[at],
-        y: vertices[at + 1],
-        z: vertices[at + 2],
-    }
-}
-
 // The corners of triangle t.
 pub fn corners(vertices: &[f32], indices: &[u32], t: usize) -> Fetch
     ensures { λ r. ⌜ r ≡ cornersOf (now (vertices .entry)) (now (indices .entry)) t ⌝ }
@@ -82,9 +71,9 @@ pub fn corners(vertices: &[f32], indices: &[u32], t: usize) -> Fetch
                 let ic = wide(indices[at + 2]);
                 if ic < n {
                     return Fetch::Corners(
-                        vertex(vertices, ia),
-                        vertex(vertices, ib),
-                        vertex(vertices, ic),
+                        point_at(vertices, ia),
+                        point_at(vertices, ib),
+                        point_at(vertices, ic),
                     );
                 }
             }
@@ -479,15 +468,6 @@ fn weigh_part(
     let whole = gather(vertices, indices, run, from, n, a, b, c);
     weigh_all(a, b, c, fours(n), x, y, low);
     whole
-}
-
-fn both(p: bool, q: bool) -> bool
-    ensures { λ r. ⌜ r ≡ p && q ⌝ }
-{
-    if p {
-        return q;
-    }
-    false
 }
 
 // The peak of the triangles that a run of triangle numbers names, in its order. Nearly all go by their least

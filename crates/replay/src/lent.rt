@@ -158,27 +158,9 @@ pub struct Reason {
 }
 
 pub fn told(r: Refusal) -> Reason {
-    match r {
-        Refusal::Oversize(p) => Reason {
-            number: 1,
-            place: p,
-        },
-        Refusal::Ragged(p) => Reason {
-            number: 2,
-            place: p,
-        },
-        Refusal::ShortOutput(p) => Reason {
-            number: 3,
-            place: p,
-        },
-        Refusal::ForeignIndex(p) => Reason {
-            number: 4,
-            place: p,
-        },
-        Refusal::BadRecord(p) => Reason {
-            number: 5,
-            place: p,
-        },
+    Reason {
+        number: shape::refusal::number(r) as usize,
+        place: shape::refusal::place(r),
     }
 }
 

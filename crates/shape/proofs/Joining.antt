@@ -25,6 +25,7 @@ use Rattle.shape.specs.declared.refusal.Refusal.the-variants.{ShortOutpu
 use Rattle.shape.specs.Gather.{gather, any}
 use Rattle.shape.specs.Memory.{Put}
 use Rattle.shape.specs.Refusal.{Fault, fine, fault, refuse, judge, leaves, numberOf, placeOf}
+use Rattle.shape.specs.Laws.Refusal.{passed, else-passed}
 use Rattle.shape.specs.Lists.{longer, uneven, pointAt, startOf, endOf, lastEnd, runBad, runOf}
 use Rattle.shape.specs.Outline.{
   reachOf,
@@ -63,6 +64,8 @@ use Rattle.shape.specs.Outline.{
   turnedOf,
   resultOf,
   outlineOf,
+  outlineLimits,
+  outlineRagged,
   outlineFault,
   shortFault,
   outlineAnswer,
@@ -328,32 +331,22 @@ reversed-next back ring i = rw (gather-next (reversedAt back ring) i) (flat-appe
 
 -- ---- lists that are sound
 
--- a check that finds nothing: its first test fails, and what comes after finds nothing
-passed : (b : Bool) (n p : ℕ) (after : Fault) → refuse b n p after ≡ fine → b ≡ false
-unfolding refuse
-passed false n p after e = refl
-passed true n p after e = absurd (let z : _≡_ {A = ℕ} 0 1 = cc in omega arith)
-
-rest : (b : Bool) (n p : ℕ) (after : Fault) → refuse b n p after ≡ fine → after ≡ fine
-unfolding refuse
-rest false n p after e = e
-rest true n p after e = absurd (let z : _≡_ {A = ℕ} 0 1 = cc in omega arith)
+-- lists within their limits have few segments
+pub few-segments : (ws : List ℕ) (xs : List Float) → outlineLimits ws xs ≡ fine → length ws ≤ 512
+unfolding outlineLimits
+few-segments ws xs e = ltb-false 512 (length ws) (passed (longer 2 256 ws) 1 256 _ e .0)
 
 pub sane : (ws : List ℕ) (xs : List Float) → outlineFault ws xs ≡ fine → Sane ws xs
-unfolding outlineFault
-sane ws xs e₁ =
+unfolding outlineFault outlineLimits outlineRagged
+sane ws xs e =
+    let limits = else-passed (outlineLimits ws xs) (outlineRagged ws xs) e in
+    let long = passed (longer 2 256 ws) 1 256 _ (limits .0) in
+    let pairs = passed (uneven 2 ws) 2 0 _ (limits .1) in
     let runs = any (runBad 2 0 ws (length xs / 3)) (length ws / 2) in
-    let a₄ = refuse (uneven 3 xs) 2 1 fine in
-    let a₃ = refuse runs 2 0 a₄ in
-    let a₂ = refuse (uneven 2 ws) 2 0 a₃ in
-    let a₁ = refuse (longer 3 4096 xs) 1 4096 a₂ in
-    let e₂ = rest (longer 2 256 ws) 1 256 a₁ e₁ in
-    let e₃ = rest (longer 3 4096 xs) 1 4096 a₂ e₂ in
-    let e₄ = rest (uneven 2 ws) 2 0 a₃ e₃ in
     record {
-      few = ltb-false 512 (length ws) (passed (longer 2 256 ws) 1 256 a₁ e₁);
-      small = ltb-false 12288 (length xs) (passed (longer 3 4096 xs) 1 4096 a₂ e₂);
-      runs = passed runs 2 0 a₄ e₄;
+      few = few-segments ws xs (limits .0);
+      small = ltb-false 12288 (length xs) (passed (longer 3 4096 xs) 1 4096 fine (long .1) .0);
+      runs = passed runs 2 0 _ (pairs .1) .0;
     }
 
 module _ {ws : List ℕ} {xs : List Float} (s : Sane ws xs) (k : ℕ) (h : k < length ws / 2) where

@@ -15,7 +15,7 @@ use Rattle.shape.specs.declared.junction_areas.Outline.{Outline}
 use Rattle.shape.specs.declared.junction_areas.OutlineAnswer.{OutlineAnswer}
 use Rattle.shape.specs.declared.junction_areas.OutlineAnswer.the-variants.{Made, Refused}
 use Rattle.shape.specs.Gather.{gather, any}
-use Rattle.shape.specs.Refusal.{Fault, fine, refuse, Answer, taken, refused, judge, leaves, numberOf, placeOf}
+use Rattle.shape.specs.Refusal.{Fault, fine, refuse, orElse, Answer, taken, refused, judge, leaves, numberOf, placeOf}
 use Rattle.shape.specs.Lists.{longer, uneven, pointAt, startOf, endOf, runBad, runOf}
 
 -- ---- distances, in x and y
@@ -221,14 +221,20 @@ outlineOf ws xs =
 
 -- ---- when it is turned back: segments are list 0 and points are list 1
 
-unfoldable pub outlineFault : List ℕ → List Float → Fault
-unfolding refuse longer uneven any runBad
-outlineFault ws xs =
-    refuse (longer 2 256 ws) 1 256
-    (refuse (longer 3 4096 xs) 1 4096
-    (refuse (uneven 2 ws) 2 0
+unfoldable pub outlineLimits : List ℕ → List Float → Fault
+unfolding refuse longer
+outlineLimits ws xs = refuse (longer 2 256 ws) 1 256 (refuse (longer 3 4096 xs) 1 4096 fine)
+
+unfoldable pub outlineRagged : List ℕ → List Float → Fault
+unfolding refuse uneven any runBad
+outlineRagged ws xs =
+    refuse (uneven 2 ws) 2 0
     (refuse (any (runBad 2 0 ws (length xs / 3)) (length ws / 2)) 2 0
-    (refuse (uneven 3 xs) 2 1 fine))))
+    (refuse (uneven 3 xs) 2 1 fine))
+
+unfoldable pub outlineFault : List ℕ → List Float → Fault
+unfolding orElse outlineLimits outlineRagged
+outlineFault ws xs = orElse (outlineLimits ws xs) (outlineRagged ws xs)
 
 -- an output of `room` floats is short
 unfoldable pub shortFault : List ℕ → List Float → ℕ → Fault

@@ -8,11 +8,9 @@ ghost use Prim.Native.Nat.{_+_, _-_, _*_, _^_, _≤_, _<_, max};
 ghost use lib.ListN.{length};
 ghost use lib.IntN.{ℤ, subℕ};
 ghost use lib.Ieee.{Float};
-ghost use Rattle.shape.specs.Refusal.{found};
-ghost use Rattle.shape.specs.Elevation.{nth, part, rowOf, columnOf, rowCount, valueOf, lineOf, straightOf, slopesOf, acrossOf, firstOf, secondOf, frameOf, entryOf, mulOf, coefficientsOf, surfaceOf, inSquare, triedAt, snapOf, within, heightOf, locateOf, gridFault, findingOf, answered, heightAnswer, heightAtAnswer};
+ghost use Rattle.shape.specs.Elevation.{nth, part, rowOf, columnOf, rowCount, valueOf, lineOf, straightOf, slopesOf, acrossOf, firstOf, secondOf, frameOf, entryOf, mulOf, coefficientsOf, surfaceOf, inSquare, triedAt, snapOf, within, heightOf, locateOf, findingOf, answered, heightAnswer, heightAtAnswer};
 ghost use Rattle.shape.specs.ElevationSteps.{oddRun, passOf, faultOf, Placed, Near, Limits};
 use crate::lists::any_long;
-use crate::refusal::Check;
 use crate::refusal::Refusal;
 use rounding::bits::from_bits64;
 use rounding::count::count64;
@@ -650,17 +648,6 @@ pub(crate) fn survey(rows: &[u32], left: usize, right: usize) -> Finding
         return Finding::Ragged;
     }
     Finding::Widest(most)
-}
-
-// Why the lists of a grid are turned back, if they are.
-pub fn grid_fault(rows: &[u32], left: usize, right: usize) -> Check
-    ensures { λ r. ⌜ found r ≡ gridFault (now (rows .entry)) left right ⌝ }
-{
-    match survey(rows, left, right) {
-        Finding::Long => Check::Faulty(Refusal::Oversize(1024)),
-        Finding::Ragged => Check::Faulty(Refusal::Ragged(0)),
-        Finding::Widest(_) => Check::Fine,
-    }
 }
 
 // The height at (s, t) along and to the left of the reference line.

@@ -37,6 +37,8 @@ ghost use Rattle.shape.specs.Outline.{
   areaOf,
   reversed,
   flat,
+  outlineLimits,
+  outlineRagged,
   outlineFault,
   Outlines,
 };
@@ -46,6 +48,8 @@ use crate::lists::point_at;
 use crate::lists::record_word;
 use crate::refusal::Check;
 use crate::refusal::Refusal;
+use crate::refusal::oversize_if;
+use crate::refusal::ragged_if;
 use rounding::compare::hypot_above_milli;
 use rounding::compare::hypot_at_most_milli;
 use rounding::extremes::max32;
@@ -497,26 +501,33 @@ fn finish(ring: &[f32], gap: f32, dropped: usize, out: &mut [f32]) -> OutlineAns
 
 // ---- the call
 
+// Which list is past its limit, if any is.
+fn outline_limits(segments: &[u32], points: &[f32]) -> Check
+    ensures { λ r. ⌜ found r ≡ outlineLimits (now (segments .entry)) (now (points .entry)) ⌝ }
+{
+    let after = oversize_if(3 * 4096 < points.len(), 4096, Check::Fine);
+    oversize_if(2 * 256 < segments.len(), 256, after)
+}
+
+// Which list is ragged, if any is.
+fn outline_ragged(segments: &[u32], points: &[f32]) -> Check
+    requires { ⌜ length (now segments) ≤ 512 ⌝ }
+    ensures { λ r. ⌜ found r ≡ outlineRagged (now (segments .entry)) (now (points .entry)) ⌝ }
+{
+    let bad = any_bad(segments, 2, 0, points.len() / 3, segments.len() / 2);
+    let after = ragged_if(points.len() % 3 != 0, 1, Check::Fine);
+    let after = ragged_if(bad, 0, after);
+    ragged_if(segments.len() % 2 != 0, 0, after)
+}
+
 // Why the lists are turned back, if they are.
 fn outline_fault(segments: &[u32], points: &[f32]) -> Check
     ensures { λ r. ⌜ found r ≡ outlineFault (now (segments .entry)) (now (points .entry)) ⌝ }
 {
-    if 2 * 256 < segments.len() {
-        return Check::Faulty(Refusal::Oversize(256));
+    match outline_limits(segments, points) {
+        Check::Faulty(r) => Check::Faulty(r),
+        Check::Fine => outline_ragged(segments, points),
     }
-    if 3 * 4096 < points.len() {
-        return Check::Faulty(Refusal::Oversize(4096));
-    }
-    if segments.len() % 2 != 0 {
-        return Check::Faulty(Refusal::Ragged(0));
-    }
-    if any_bad(segments, 2, 0, points.len() / 3, segments.len() / 2) {
-        return Check::Faulty(Refusal::Ragged(0));
-    }
-    if points.len() % 3 != 0 {
-        return Check::Faulty(Refusal::Ragged(1));
-    }
-    Check::Fine
 }
 
 // The outline of lists that are sound, joined in the memory `line`.

@@ -2,7 +2,7 @@
 // records have of other lists. The accessors take any place, so that what stands above them needs no
 // proof about indices; the checks of lists stand here alone.
 ghost use mathlib.Core.Path.{_≡_};
-ghost use mathlib.Core.Bool.{_||_, not};
+ghost use mathlib.Core.Bool.{_||_, _&&_, not};
 ghost use Prim.Native.Nat.{_+_, _-_, _*_, _/_, _%_, _^_, _≤_, _<_, min};
 ghost use lib.Dec.{ltb, eqb};
 ghost use lib.ListN.{length, getD, take, drop};
@@ -16,6 +16,20 @@ use rounding::bits::wide;
 use vector::coords::Point;
 use vector::coords::Vector;
 
+// ---- tests taken together, with no branch between them
+
+pub(crate) fn either(a: bool, b: bool) -> bool
+    ensures { λ r. ⌜ r ≡ (a || b) ⌝ }
+{
+    if a { true } else { b }
+}
+
+pub fn both(a: bool, b: bool) -> bool
+    ensures { λ r. ⌜ r ≡ (a && b) ⌝ }
+{
+    if a { b } else { false }
+}
+
 // ---- elements
 
 // The word at a place of a list, 0 past its end.
@@ -26,12 +40,12 @@ pub fn word_at(xs: &[u32], i: usize) -> usize
 }
 
 // Point i of a list of coordinates; the origin where the list does not hold it whole.
-pub(crate) fn point_at(xs: &[f32], i: usize) -> Point
-    requires { ⌜ i < 2 ^ 62 ⌝ }
+pub fn point_at(xs: &[f32], i: usize) -> Point
     ensures { λ r. ⌜ r ≡ pointAt (now (xs .entry)) i ⌝ }
 {
-    let at = 3 * i;
-    if at + 2 < xs.len() {
+    let n = xs.len() / 3;
+    if i < n {
+        let at = 3 * i;
         return Point {
             x: xs[at],
             y: xs[at + 1],
@@ -86,12 +100,6 @@ pub fn part(xs: &[f32], a: usize, e: usize) -> &[f32]
 }
 
 // ---- records and their runs
-
-fn either(a: bool, b: bool) -> bool
-    ensures { λ r. ⌜ r ≡ (a || b) ⌝ }
-{
-    if a { true } else { b }
-}
 
 // Word j of record k, in a list of records of `width` words, for numbers whose product fits.
 fn near_word(ws: &[u32], width: usize, k: usize, j: usize) -> usize

@@ -7,6 +7,7 @@ ghost use Rattle.shape.specs.Gather.{least};
 ghost use Rattle.shape.specs.Refusal.{judge, taken};
 ghost use Rattle.shape.specs.Lists.{pointAt, meshLists, meshFault};
 ghost use Rattle.shape.specs.Verdict.{FiniteBelow, unsound, findingOf, flatOr, triplesOf, faultyAt, tell, ofTriangles, validityOf, readVerdict};
+use crate::lists::both;
 use crate::lists::mesh_fault;
 use crate::lists::point_at;
 use crate::lists::word_at;
@@ -36,12 +37,6 @@ enum Finding {
     Fine,
     Past(usize),
     Flat,
-}
-
-fn both(a: bool, b: bool) -> bool
-    ensures { λ r. ⌜ r ≡ (a && b) ⌝ }
-{
-    if a { b } else { false }
 }
 
 // Are all the numbers finite? There is no early exit, so that several are tested at a time.
@@ -135,19 +130,6 @@ fn flat_or_fine(vertices: &[f32], a: usize, b: usize, c: usize) -> Finding
     Finding::Fine
 }
 
-// Vertex i, which the list holds.
-fn corner(vertices: &[f32], i: usize) -> Point
-    requires { ⌜ i < length (now vertices) / 3 ⌝ }
-    ensures { λ r. ⌜ r ≡ pointAt (now (vertices .entry)) i ⌝ }
-{
-    let at = 3 * i;
-    Point {
-        x: vertices[at],
-        y: vertices[at + 1],
-        z: vertices[at + 2],
-    }
-}
-
 // Is something wrong with triangle t, which has three indices, in a mesh of n vertices?
 fn whole_faulty(vertices: &[f32], indices: &[u32], n: usize, t: usize) -> bool
     requires { ⌜ (n ≡ length (now vertices) / 3) × (3 * t + 2 < length (now indices)) ⌝ }
@@ -176,9 +158,9 @@ fn whole_faulty(vertices: &[f32], indices: &[u32], n: usize, t: usize) -> bool
         return true;
     }
     no_area(
-        corner(vertices, a),
-        corner(vertices, b),
-        corner(vertices, c),
+        point_at(vertices, a),
+        point_at(vertices, b),
+        point_at(vertices, c),
     )
 }
 

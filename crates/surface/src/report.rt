@@ -40,6 +40,8 @@ use lookup::sampler::tops;
 use rounding::bits::from_bits32;
 use shape::refusal::Check;
 use shape::refusal::Refusal;
+use shape::refusal::number;
+use shape::refusal::place;
 use vector::coords::Vector;
 
 // ---- a refusal
@@ -53,27 +55,9 @@ struct Reason {
 fn reason_of(r: Refusal) -> Reason
     ensures { λ w. ⌜ (w .number ≡ numberOf r) × (w .place ≡ placeOf r) × (w .number < 6) ⌝ }
 {
-    match r {
-        Refusal::Oversize(p) => Reason {
-            number: 1,
-            place: p,
-        },
-        Refusal::Ragged(p) => Reason {
-            number: 2,
-            place: p,
-        },
-        Refusal::ShortOutput(p) => Reason {
-            number: 3,
-            place: p,
-        },
-        Refusal::ForeignIndex(p) => Reason {
-            number: 4,
-            place: p,
-        },
-        Refusal::BadRecord(p) => Reason {
-            number: 5,
-            place: p,
-        },
+    Reason {
+        number: wide(number(r)),
+        place: place(r),
     }
 }
 

@@ -1,16 +1,21 @@
--- The greatest gap of an outline is a number, so "at most 0.1" is the Rust's "not above 0.1". Assumes nothing.
+-- The greatest gap of an outline is a number, so "at most 0.1" is the Rust's "not above 0.1"; and the faults of its lists as one chain. Assumes nothing.
 use mathlib.Core.Path.{_≡_, refl, sym, subst}
 use mathlib.Core.Bool.{Bool, true, false, not}
 use mathlib.Core.List.{List}
-use Prim.Native.Nat.{ℕ, zero, suc}
+use Prim.Native.Nat.{ℕ, zero, suc, _/_}
 use lib.Dec.{T}
+use lib.ListN.{length}
 use lib.Ieee.{Float, lt, le, ofBits}
 use Rattle.rounding.specs.Extremes.{maxOf}
 use Rattle.rounding.specs.Thresholds.{tenth}
 use Rattle.rounding.specs.Laws.Order.{IsNum, le-num-right, lt→not-le, le-of-not-lt}
 use Rattle.rounding.specs.Laws.Extremes.{max-picks}
 use Rattle.vector.specs.declared.coords.Point.{Point}
-use Rattle.shape.specs.Outline.{lastOf, gapAt, joined, widest}
+use Rattle.shape.specs.Outline.{lastOf, gapAt, joined, widest, outlineLimits, outlineRagged, outlineFault}
+use Rattle.shape.specs.Gather.{any}
+use Rattle.shape.specs.Lists.{longer, uneven, runBad}
+use Rattle.shape.specs.Refusal.{fine, refuse, orElse}
+use Rattle.shape.specs.Laws.Refusal.{else-refuse}
 
 max-number : (x y : Float) → IsNum x → IsNum (maxOf x y)
 max-number x y n = le-num-right x (maxOf x y) (max-picks x y .left n)
@@ -38,3 +43,14 @@ at-most g c n m false false e h = absurd (subst T e (le-of-not-lt c g m n h))
 pub closed-unless-above : (ws : List ℕ) (xs : List Float) (n : ℕ) → le (widest (joined ws xs n)) tenth ≡ not (lt tenth (widest (joined ws xs n)))
 unfolding ofBits
 closed-unless-above ws xs n = at-most (widest (joined ws xs n)) tenth (widest-number ws xs n) tt _ _ refl refl
+
+-- the faults of an outline's lists, each before the next
+pub outline-fault-chain : (ws : List ℕ) (xs : List Float)
+    → outlineFault ws xs
+    ≡ refuse (longer 2 256 ws) 1 256
+    (refuse (longer 3 4096 xs) 1 4096
+    (refuse (uneven 2 ws) 2 0
+    (refuse (any (runBad 2 0 ws (length xs / 3)) (length ws / 2)) 2 0
+    (refuse (uneven 3 xs) 2 1 fine))))
+unfolding outlineFault outlineLimits outlineRagged orElse
+outline-fault-chain ws xs = rw (else-refuse, else-refuse)

@@ -1,5 +1,5 @@
 -- The first of several faults: a chain of tests before another fault, and what it means that there is none. Assumes nothing.
-use mathlib.Core.Path.{_≡_, refl}
+use mathlib.Core.Path.{_≡_, refl, sym, ap, _∙_}
 use mathlib.Core.Bool.{Bool, true, false, _||_}
 use Prim.Native.Nat.{ℕ}
 use native.Mathlib.Omega.{arith}
@@ -38,7 +38,11 @@ unfolding orElse
 else-passed fine g e = (refl, e)
 else-passed (fault n p) g e = absurd (never e)
 
--- the first of two faults, where a check has told the first
+-- what a check has told: nothing, or the first of two faults
+pub none-told : {k : Check} {f : Fault} → found k ≡ f → k ≡ Fine → f ≡ fine
+unfolding found
+none-told e h = sym e ∙ ap found h
+
 module _ {k : Check} {f : Fault} (g : Fault) (e : found k ≡ f) where
   pub else-faulty : {r : Refusal} → k ≡ Faulty r → found (Faulty r) ≡ orElse f g
   unfolding found orElse

@@ -74,17 +74,17 @@ shared-slice-read-wide-3 c = search needs
 wide-requires-3 : tie.Need-wide-requires-3
 wide-requires-3 c κs = search needs
 
-vertex-requires : tie.Need-vertex-requires
-vertex-requires c κs = search needs
+point-at-requires : tie.Need-point-at-requires
+point-at-requires c κs = search needs
 
-vertex-requires-2 : tie.Need-vertex-requires-2
-vertex-requires-2 c κs = search needs
+point-at-requires-2 : tie.Need-point-at-requires-2
+point-at-requires-2 c κs = search needs
 
-vertex-requires-3 : tie.Need-vertex-requires-3
-vertex-requires-3 c κs = search needs
+point-at-requires-3 : tie.Need-point-at-requires-3
+point-at-requires-3 c κs = search needs
 
 returns : tie.Need-returns
-returns c = rw (c .before .before .vertex .ensures, c .before .vertex2 .ensures, c .vertex3 .ensures) (all _ _ _ (c .before .before .before .before .before .before .before .before .before .before .before .before .if1 .taken) _ (c .before .before .before .before .before .before .before .before .before .before .wide .ensures) (c .before .before .before .before .before .before .before .before .before .if2 .taken) _ (c .before .before .before .before .before .before .before .wide2 .ensures) (c .before .before .before .before .before .before .if3 .taken) _ (c .before .before .before .before .wide3 .ensures) (c .before .before .before .if4 .taken))
+returns c = rw (c .before .before .point-at .ensures, c .before .point-at2 .ensures, c .point-at3 .ensures) (all _ _ _ (c .before .before .before .before .before .before .before .before .before .before .before .before .if1 .taken) _ (c .before .before .before .before .before .before .before .before .before .before .wide .ensures) (c .before .before .before .before .before .before .before .before .before .if2 .taken) _ (c .before .before .before .before .before .before .before .wide2 .ensures) (c .before .before .before .before .before .before .if3 .taken) _ (c .before .before .before .before .wide3 .ensures) (c .before .before .before .if4 .taken))
 
 returns-2 : tie.Need-returns-2
 returns-2 c = no-c _ _ _ (c .before .before .before .before .before .before .before .before .before .if1 .taken) _ (c .before .before .before .before .before .before .before .wide .ensures) (c .before .before .before .before .before .before .if2 .taken) _ (c .before .before .before .before .wide2 .ensures) (c .before .before .before .if3 .taken) _ (c .before .wide3 .ensures) (c .if4 .left)
@@ -114,9 +114,9 @@ corners-spec =
     mul-wide-3
     shared-slice-read-wide-3
     wide-requires-3
-    vertex-requires
-    vertex-requires-2
-    vertex-requires-3
+    point-at-requires
+    point-at-requires-2
+    point-at-requires-3
     returns
     returns-2
     returns-3

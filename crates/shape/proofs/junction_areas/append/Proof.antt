@@ -13,6 +13,7 @@ use Rattle.shape.specs.Lists.{pointAt}
 use Rattle.shape.specs.Outline.{pointFrom, extended}
 use Rattle.shape.specs.OutlineSteps.{Holds}
 use Rattle.shape.proofs.Joining.{extended-next}
+use borrow.Author.Needs.{needs}
 use Rattle.shape.proofs.junction_areas.append.Statement.{statement}
 use Rattle.shape.proofs.junction_areas.append.Tie as tie
 
@@ -37,7 +38,7 @@ place-requires : tie.Need-place-requires Inv-loop μ-loop
 place-requires c κs = omega arith
 
 point-at-requires : tie.Need-point-at-requires Inv-loop μ-loop
-point-at-requires c κs = omega arith
+point-at-requires c κs = search needs
 
 add-point-requires : tie.Need-add-point-requires Inv-loop μ-loop
 add-point-requires c κs = omega arith

@@ -12,6 +12,7 @@ use Rattle.shape.specs.Lists.{pointAt}
 use Rattle.shape.specs.Outline.{placeFrom, flat, reversedAt, reversed}
 use Rattle.shape.specs.Laws.Memory.{put-none, put-then}
 use Rattle.shape.proofs.Joining.{flat-length, flat-count, flat-at, reversed-next}
+use borrow.Author.Needs.{needs}
 use Rattle.shape.proofs.junction_areas.put_ring.Statement.{statement}
 use Rattle.shape.proofs.junction_areas.put_ring.Tie as tie
 
@@ -29,7 +30,7 @@ place-requires : tie.Need-place-requires Inv-loop μ-loop
 place-requires c κs = omega arith
 
 point-at-requires : tie.Need-point-at-requires Inv-loop μ-loop
-point-at-requires c κs = omega arith
+point-at-requires c κs = search needs
 
 put-point-requires : tie.Need-put-point-requires Inv-loop μ-loop
 put-point-requires c κs = omega arith

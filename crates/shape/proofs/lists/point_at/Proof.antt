@@ -1,5 +1,9 @@
 -- `shape::lists::point_at` meets its contract, by the test that led to each return. Assumes nothing.
+use Prim.Native.Nat.{_+_, _*_, _≤_, _<_}
+use native.Mathlib.Omega.{arith}
 use borrow.Author.Tests.{lt-ltb, le-ltb}
+use denote.Ref.{now}
+use lib.ListN.{length}
 use Rattle.shape.specs.Lists.{pointAt}
 use borrow.Author.Needs.{needs}
 use Rattle.shape.proofs.lists.point_at.Statement.{statement}
@@ -7,9 +11,6 @@ use Rattle.shape.proofs.lists.point_at.Tie as tie
 
 mul-at : tie.Need-mul-at
 mul-at c = search needs
-
-add-if1 : tie.Need-add-if1
-add-if1 c = search needs
 
 mul-t7 : tie.Need-mul-t7
 mul-t7 c = search needs
@@ -37,18 +38,23 @@ shared-slice-read-t17 c = search needs
 
 returns : tie.Need-returns
 unfolding pointAt
-returns c = simp (lt-ltb _ _ (c .before .before .before .if1 .taken))
+returns c =
+    let a = c .before .before .before .before .args in
+    let h : 3 * a .i + 2 < length (now (a .xs)) = omega (arith, c .before .before .before .if1 .taken) in
+    simp (lt-ltb _ _ h)
 
 returns-2 : tie.Need-returns-2
 unfolding pointAt
-returns-2 c = simp (le-ltb _ _ (c .if1 .left))
+returns-2 c =
+    let a = c .before .args in
+    let h : length (now (a .xs)) ≤ 3 * a .i + 2 = omega (arith, c .if1 .left) in
+    simp (le-ltb _ _ h)
 
 pub point-at-spec : {M : Type 1} → statement M
 point-at-spec =
     tie.close
     (tie.spec
     mul-at
-    add-if1
     mul-t7
     shared-slice-read-t9
     add-t10

@@ -23,7 +23,7 @@ unfolding any
 loop-holds c = (refl, omega arith)
 
 point-at-requires : tie.Need-point-at-requires Inv-loop μ-loop
-point-at-requires c κs = omega arith
+point-at-requires c κs = search needs
 
 is-finite-requires : tie.Need-is-finite-requires Inv-loop μ-loop
 is-finite-requires c κs = search needs

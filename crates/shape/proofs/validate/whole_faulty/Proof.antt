@@ -60,20 +60,20 @@ returns-5 c = let a = c .before .before .before .before .before .before .before 
 returns-6 : tie.Need-returns-6
 returns-6 c = let a = c .before .before .before .before .before .before .before .before .before .before .before .before .before .before .args in flat-third (now (a .vertices)) (c .before .before .before .before .before .before .before .before .before .before .wide .result) (c .before .before .before .before .before .before .before .before .wide2 .result) (c .before .before .before .before .before .before .wide3 .result) (c .before .before .if4 .left) (c .before .if5 .left) (c .if6 .taken) ∙ inside (now (a .vertices)) (now (a .indices)) (a .t) (a .n) (c .before .before .before .before .before .before .before .before .before .before .wide .result) (c .before .before .before .before .before .before .before .before .wide2 .result) (c .before .before .before .before .before .before .wide3 .result) (c .before .before .before .before .before .before .before .before .before .before .before .before .before .before .pre .0) (c .before .before .before .before .before .before .before .before .before .before .before .before .before .before .pre .1) (c .before .before .before .before .before .before .before .before .before .before .wide .ensures) (c .before .before .before .before .before .before .before .before .wide2 .ensures) (c .before .before .before .before .before .before .wide3 .ensures) (c .before .before .before .before .before .if1 .left) (c .before .before .before .before .if2 .left) (c .before .before .before .if3 .left)
 
-corner-requires : tie.Need-corner-requires
-corner-requires c κs = search needs
+point-at-requires : tie.Need-point-at-requires
+point-at-requires c κs = search needs
 
-corner-requires-2 : tie.Need-corner-requires-2
-corner-requires-2 c κs = search needs
+point-at-requires-2 : tie.Need-point-at-requires-2
+point-at-requires-2 c κs = search needs
 
-corner-requires-3 : tie.Need-corner-requires-3
-corner-requires-3 c κs = search needs
+point-at-requires-3 : tie.Need-point-at-requires-3
+point-at-requires-3 c κs = search needs
 
 no-area-requires : tie.Need-no-area-requires
 no-area-requires c κs = search needs
 
 returns-7 : tie.Need-returns-7
-returns-7 c = let a = c .before .before .before .before .before .before .before .before .before .before .before .before .before .before .before .before .before .before .args in rw (c .no-area .ensures, c .before .corner3 .ensures, c .before .before .corner2 .ensures, c .before .before .before .corner .ensures) (by-area (now (a .vertices)) (c .before .before .before .before .before .before .before .before .before .before .before .before .before .before .wide .result) (c .before .before .before .before .before .before .before .before .before .before .before .before .wide2 .result) (c .before .before .before .before .before .before .before .before .before .before .wide3 .result) (c .before .before .before .before .before .before .if4 .left) (c .before .before .before .before .before .if5 .left) (c .before .before .before .before .if6 .left) ∙ inside (now (a .vertices)) (now (a .indices)) (a .t) (a .n) (c .before .before .before .before .before .before .before .before .before .before .before .before .before .before .wide .result) (c .before .before .before .before .before .before .before .before .before .before .before .before .wide2 .result) (c .before .before .before .before .before .before .before .before .before .before .wide3 .result) (c .before .before .before .before .before .before .before .before .before .before .before .before .before .before .before .before .before .before .pre .0) (c .before .before .before .before .before .before .before .before .before .before .before .before .before .before .before .before .before .before .pre .1) (c .before .before .before .before .before .before .before .before .before .before .before .before .before .before .wide .ensures) (c .before .before .before .before .before .before .before .before .before .before .before .before .wide2 .ensures) (c .before .before .before .before .before .before .before .before .before .before .wide3 .ensures) (c .before .before .before .before .before .before .before .before .before .if1 .left) (c .before .before .before .before .before .before .before .before .if2 .left) (c .before .before .before .before .before .before .before .if3 .left))
+returns-7 c = let a = c .before .before .before .before .before .before .before .before .before .before .before .before .before .before .before .before .before .before .args in rw (c .no-area .ensures, c .before .point-at3 .ensures, c .before .before .point-at2 .ensures, c .before .before .before .point-at .ensures) (by-area (now (a .vertices)) (c .before .before .before .before .before .before .before .before .before .before .before .before .before .before .wide .result) (c .before .before .before .before .before .before .before .before .before .before .before .before .wide2 .result) (c .before .before .before .before .before .before .before .before .before .before .wide3 .result) (c .before .before .before .before .before .before .if4 .left) (c .before .before .before .before .before .if5 .left) (c .before .before .before .before .if6 .left) ∙ inside (now (a .vertices)) (now (a .indices)) (a .t) (a .n) (c .before .before .before .before .before .before .before .before .before .before .before .before .before .before .wide .result) (c .before .before .before .before .before .before .before .before .before .before .before .before .wide2 .result) (c .before .before .before .before .before .before .before .before .before .before .wide3 .result) (c .before .before .before .before .before .before .before .before .before .before .before .before .before .before .before .before .before .before .pre .0) (c .before .before .before .before .before .before .before .before .before .before .before .before .before .before .before .before .before .before .pre .1) (c .before .before .before .before .before .before .before .before .before .before .before .before .before .before .wide .ensures) (c .before .before .before .before .before .before .before .before .before .before .before .before .wide2 .ensures) (c .before .before .before .before .before .before .before .before .before .before .wide3 .ensures) (c .before .before .before .before .before .before .before .before .before .if1 .left) (c .before .before .before .before .before .before .before .before .if2 .left) (c .before .before .before .before .before .before .before .if3 .left))
 
 pub whole-faulty-spec : {M : Type 1} → statement M
 whole-faulty-spec =
@@ -97,8 +97,8 @@ whole-faulty-spec =
     returns-4
     returns-5
     returns-6
-    corner-requires
-    corner-requires-2
-    corner-requires-3
+    point-at-requires
+    point-at-requires-2
+    point-at-requires-3
     no-area-requires
     returns-7)

@@ -1,57 +1,36 @@
 -- `surface::report::reason_of` meets its contract. Assumes nothing.
-use mathlib.Core.Path.{refl}
+use mathlib.Core.Path.{_≡_, _∙_}
+use Prim.Native.Nat.{_<_}
 use native.Mathlib.Omega.{arith}
-use Rattle.shape.specs.Refusal.{numberOf, placeOf}
+use Rattle.shape.specs.declared.refusal.Refusal.{Refusal}
+use Rattle.shape.specs.declared.refusal.Refusal.the-variants.{Oversize, Ragged, ShortOutput, ForeignIndex, BadRecord}
+use Rattle.shape.specs.Refusal.{numberOf}
 use borrow.Author.Needs.{needs}
 use Rattle.surface.proofs.report.reason_of.Statement.{statement}
 use Rattle.surface.proofs.report.reason_of.Tie as tie
 
-enum-known-r : tie.Need-enum-known-r
-enum-known-r c = search needs
+-- the table has five numbers
+few : (r : Refusal) → numberOf r < 6
+unfolding numberOf
+few (Oversize limit) = omega arith
+few (Ragged list) = omega arith
+few (ShortOutput wanted) = omega arith
+few (ForeignIndex word) = omega arith
+few (BadRecord record′) = omega arith
 
-enum-known-r-2 : tie.Need-enum-known-r-2
-enum-known-r-2 c = search needs
+number-requires : tie.Need-number-requires
+number-requires c κs = search needs
 
-enum-known-r-3 : tie.Need-enum-known-r-3
-enum-known-r-3 c = search needs
+wide-requires : tie.Need-wide-requires
+wide-requires c κs = search needs
 
-enum-known-r-4 : tie.Need-enum-known-r-4
-enum-known-r-4 c = search needs
-
-enum-known-r-5 : tie.Need-enum-known-r-5
-enum-known-r-5 c = search needs
+place-requires : tie.Need-place-requires
+place-requires c κs = search needs
 
 returns : tie.Need-returns
-unfolding numberOf placeOf
-returns c = rw (c .before .r .given .1) (refl, refl, omega arith)
-
-returns-2 : tie.Need-returns-2
-unfolding numberOf placeOf
-returns-2 c = rw (c .before .r2 .given .1) (refl, refl, omega arith)
-
-returns-3 : tie.Need-returns-3
-unfolding numberOf placeOf
-returns-3 c = rw (c .before .r3 .given .1) (refl, refl, omega arith)
-
-returns-4 : tie.Need-returns-4
-unfolding numberOf placeOf
-returns-4 c = rw (c .before .r4 .given .1) (refl, refl, omega arith)
-
-returns-5 : tie.Need-returns-5
-unfolding numberOf placeOf
-returns-5 c = rw (c .before .r5 .given .1) (refl, refl, omega arith)
+returns c =
+    let n = c .before .wide .ensures .0 ∙ c .before .before .number .ensures in
+    (n, c .place .ensures, omega (arith, n, few (c .before .before .before .args .r)))
 
 pub reason-of-spec : {M : Type 1} → statement M
-reason-of-spec =
-    tie.close
-    (tie.spec
-    enum-known-r
-    enum-known-r-2
-    enum-known-r-3
-    enum-known-r-4
-    enum-known-r-5
-    returns
-    returns-2
-    returns-3
-    returns-4
-    returns-5)
+reason-of-spec = tie.close (tie.spec number-requires wide-requires place-requires returns)
