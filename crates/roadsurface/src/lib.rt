@@ -3,13 +3,15 @@
 // returned is a code: of a call that is turned back the refusal's number * 2^32 + its place, else the call's
 // count. A call that is turned back leaves every number and every slice as it was.
 ghost use mathlib.Core.Path.{_≡_};
+ghost use mathlib.Core.List.{[]};
 ghost use lib.ListN.{length};
 ghost use Rattle.shape.specs.Refusal.{judge, taken, leaves};
 ghost use Rattle.shape.specs.Lists.{meshLists, meshFault};
 ghost use Rattle.shape.specs.Elevation.{heightAnswer, heightAtAnswer};
 ghost use Rattle.shape.specs.Outline.{outlineAnswer};
 ghost use Rattle.shape.specs.Ears.{earsOf, earsAnswer};
-ghost use Rattle.shape.specs.JunctionMesh.{ground, groundAnswer, Meshes, meshVertices, meshNormals, meshIndices};
+ghost use Rattle.shape.specs.JunctionMesh.{ground, groundAnswer, groundMesh, readGround};
+ghost use Rattle.shape.specs.MeshMemory.{leavesMesh};
 ghost use Rattle.shape.specs.SurfaceMesh.{given, meshOf, answerOf};
 ghost use Rattle.shape.specs.Verdict.{validityOf};
 ghost use Rattle.lookup.specs.Index.{indexWords, buildOf};
@@ -61,8 +63,13 @@ fn ground_mesh(
 ) -> JunctionAnswer
     ensures { λ r.
         let g = ground (now (ring .entry)) (gridIf there grid) (now (rows .entry)) (now (left .entry)) (now (right .entry)) in
-        let a = groundAnswer g (length (now (vertices .entry))) (length (now (normals .entry))) (length (now (indices .entry))) in
-        ⌜ Meshes g a r (now (vertices .entry)) (now (vertices .exit)) (now (normals .entry)) (now (normals .exit)) (now (indices .entry)) (now (indices .exit)) ⌝ }
+        let before = meshLists (now (vertices .entry)) (now (normals .entry)) (now (indices .entry)) [] in
+        ⌜ readGround r ≡ groundAnswer g before ⌝ }
+    ensures { λ _.
+        let g = ground (now (ring .entry)) (gridIf there grid) (now (rows .entry)) (now (left .entry)) (now (right .entry)) in
+        let before = meshLists (now (vertices .entry)) (now (normals .entry)) (now (indices .entry)) [] in
+        let after = meshLists (now (vertices .exit)) (now (normals .exit)) (now (indices .exit)) [] in
+        ⌜ after ≡ leavesMesh (groundAnswer g before) (groundMesh g) before ⌝ }
 {
     if there {
         let g = JunctionGrid::Present(grid);
@@ -199,20 +206,13 @@ pub extern "C" fn rs_junction_mesh(
 ) -> u64
     ensures { λ r.
         let g = ground (now (ring .entry)) (gridIf «has_grid» (gridOf «origin_x» «origin_y» sin cos start spacing)) (now (rows .entry)) (now (left .entry)) (now (right .entry)) in
-        let a = groundAnswer g (length (now (vertices .entry))) (length (now (normals .entry))) (length (now (indices .entry))) in
-        ⌜ r ≡ codeOf (λ n. n) a ⌝ }
+        let before = meshLists (now (vertices .entry)) (now (normals .entry)) (now (indices .entry)) [] in
+        ⌜ r ≡ codeOf (λ n. n) (groundAnswer g before) ⌝ }
     ensures { λ _.
         let g = ground (now (ring .entry)) (gridIf «has_grid» (gridOf «origin_x» «origin_y» sin cos start spacing)) (now (rows .entry)) (now (left .entry)) (now (right .entry)) in
-        let a = groundAnswer g (length (now (vertices .entry))) (length (now (normals .entry))) (length (now (indices .entry))) in
-        ⌜ now (vertices .exit) ≡ leaves a (meshVertices g) (now (vertices .entry)) ⌝ }
-    ensures { λ _.
-        let g = ground (now (ring .entry)) (gridIf «has_grid» (gridOf «origin_x» «origin_y» sin cos start spacing)) (now (rows .entry)) (now (left .entry)) (now (right .entry)) in
-        let a = groundAnswer g (length (now (vertices .entry))) (length (now (normals .entry))) (length (now (indices .entry))) in
-        ⌜ now (normals .exit) ≡ leaves a (meshNormals g) (now (normals .entry)) ⌝ }
-    ensures { λ _.
-        let g = ground (now (ring .entry)) (gridIf «has_grid» (gridOf «origin_x» «origin_y» sin cos start spacing)) (now (rows .entry)) (now (left .entry)) (now (right .entry)) in
-        let a = groundAnswer g (length (now (vertices .entry))) (length (now (normals .entry))) (length (now (indices .entry))) in
-        ⌜ now (indices .exit) ≡ leaves a (meshIndices g) (now (indices .entry)) ⌝ }
+        let before = meshLists (now (vertices .entry)) (now (normals .entry)) (now (indices .entry)) [] in
+        let after = meshLists (now (vertices .exit)) (now (normals .exit)) (now (indices .exit)) [] in
+        ⌜ after ≡ leavesMesh (groundAnswer g before) (groundMesh g) before ⌝ }
 {
     let grid = ElevationGrid {
         origin_x: origin_x,
@@ -254,36 +254,25 @@ pub extern "C" fn rs_surface_mesh(
 ) -> u64
     ensures { λ r.
         let g = given (now (points .entry)) (now (tangents .entry)) (now (widths .entry)) (now (banks .entry)) (now (lanes .entry)) in
-        let a = answerOf g (length (now (vertices .entry))) (length (now (normals .entry))) (length (now (indices .entry))) (length (now (spans .entry))) in
-        ⌜ r ≡ codeOf (λ m. m .vertices) a ⌝ }
+        let before = meshLists (now (vertices .entry)) (now (normals .entry)) (now (indices .entry)) (now (spans .entry)) in
+        ⌜ r ≡ codeOf (λ m. m .vertices) (answerOf g before) ⌝ }
     ensures { λ _.
         let g = given (now (points .entry)) (now (tangents .entry)) (now (widths .entry)) (now (banks .entry)) (now (lanes .entry)) in
-        let a = answerOf g (length (now (vertices .entry))) (length (now (normals .entry))) (length (now (indices .entry))) (length (now (spans .entry))) in
-        ⌜ now (vertices .exit) ≡ leaves a (meshOf g .vertices) (now (vertices .entry)) ⌝ }
+        let before = meshLists (now (vertices .entry)) (now (normals .entry)) (now (indices .entry)) (now (spans .entry)) in
+        let after = meshLists (now (vertices .exit)) (now (normals .exit)) (now (indices .exit)) (now (spans .exit)) in
+        ⌜ after ≡ leavesMesh (answerOf g before) (meshOf g) before ⌝ }
     ensures { λ _.
         let g = given (now (points .entry)) (now (tangents .entry)) (now (widths .entry)) (now (banks .entry)) (now (lanes .entry)) in
-        let a = answerOf g (length (now (vertices .entry))) (length (now (normals .entry))) (length (now (indices .entry))) (length (now (spans .entry))) in
-        ⌜ now (normals .exit) ≡ leaves a (meshOf g .normals) (now (normals .entry)) ⌝ }
+        let before = meshLists (now (vertices .entry)) (now (normals .entry)) (now (indices .entry)) (now (spans .entry)) in
+        ⌜ now («normal_count» .exit) ≡ leftIn (λ m _. wordFor (m .normals)) (answerOf g before) (now («normal_count» .entry)) ⌝ }
     ensures { λ _.
         let g = given (now (points .entry)) (now (tangents .entry)) (now (widths .entry)) (now (banks .entry)) (now (lanes .entry)) in
-        let a = answerOf g (length (now (vertices .entry))) (length (now (normals .entry))) (length (now (indices .entry))) (length (now (spans .entry))) in
-        ⌜ now (indices .exit) ≡ leaves a (meshOf g .indices) (now (indices .entry)) ⌝ }
+        let before = meshLists (now (vertices .entry)) (now (normals .entry)) (now (indices .entry)) (now (spans .entry)) in
+        ⌜ now («index_count» .exit) ≡ leftIn (λ m _. wordFor (m .indices)) (answerOf g before) (now («index_count» .entry)) ⌝ }
     ensures { λ _.
         let g = given (now (points .entry)) (now (tangents .entry)) (now (widths .entry)) (now (banks .entry)) (now (lanes .entry)) in
-        let a = answerOf g (length (now (vertices .entry))) (length (now (normals .entry))) (length (now (indices .entry))) (length (now (spans .entry))) in
-        ⌜ now (spans .exit) ≡ leaves a (meshOf g .spans) (now (spans .entry)) ⌝ }
-    ensures { λ _.
-        let g = given (now (points .entry)) (now (tangents .entry)) (now (widths .entry)) (now (banks .entry)) (now (lanes .entry)) in
-        let a = answerOf g (length (now (vertices .entry))) (length (now (normals .entry))) (length (now (indices .entry))) (length (now (spans .entry))) in
-        ⌜ now («normal_count» .exit) ≡ leftIn (λ m _. wordFor (m .normals)) a (now («normal_count» .entry)) ⌝ }
-    ensures { λ _.
-        let g = given (now (points .entry)) (now (tangents .entry)) (now (widths .entry)) (now (banks .entry)) (now (lanes .entry)) in
-        let a = answerOf g (length (now (vertices .entry))) (length (now (normals .entry))) (length (now (indices .entry))) (length (now (spans .entry))) in
-        ⌜ now («index_count» .exit) ≡ leftIn (λ m _. wordFor (m .indices)) a (now («index_count» .entry)) ⌝ }
-    ensures { λ _.
-        let g = given (now (points .entry)) (now (tangents .entry)) (now (widths .entry)) (now (banks .entry)) (now (lanes .entry)) in
-        let a = answerOf g (length (now (vertices .entry))) (length (now (normals .entry))) (length (now (indices .entry))) (length (now (spans .entry))) in
-        ⌜ now («span_count» .exit) ≡ leftIn (λ m _. wordFor (m .spans)) a (now («span_count» .entry)) ⌝ }
+        let before = meshLists (now (vertices .entry)) (now (normals .entry)) (now (indices .entry)) (now (spans .entry)) in
+        ⌜ now («span_count» .exit) ≡ leftIn (λ m _. wordFor (m .spans)) (answerOf g before) (now («span_count» .entry)) ⌝ }
 {
     let a = surface_mesh(
         points,

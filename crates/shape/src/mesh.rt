@@ -86,7 +86,8 @@ fn put_lane(
     requires { ⌜ Room (laneAt (given (now points) (now tangents) (now widths) (now banks) (now lanes)) k) at (now vertices) (now normals) (now indices) (now spans) ⌝ }
     ensures { λ r.
         let g = given (now (points .entry)) (now (tangents .entry)) (now (widths .entry)) (now (banks .entry)) (now (lanes .entry)) in
-        ⌜ Wrote (laneAt g k) (wordOf 10 (now (lanes .entry)) k 0) at r (now (vertices .entry)) (now (vertices .exit)) (now (normals .entry)) (now (normals .exit)) (now (indices .entry)) (now (indices .exit)) (now (spans .entry)) (now (spans .exit)) ⌝ }
+        let id = wordOf 10 (now (lanes .entry)) k 0 in
+        ⌜ Wrote (laneAt g k) id at r (now (vertices .entry)) (now (vertices .exit)) (now (normals .entry)) (now (normals .exit)) (now (indices .entry)) (now (indices .exit)) (now (spans .entry)) (now (spans .exit)) ⌝ }
 {
     let p = lane_run(3, points, lanes, 1, k);
     let t = lane_run(3, tangents, lanes, 3, k);

@@ -7,15 +7,16 @@ use mathlib.Core.List.{List, [], _∷_}
 use native.Mathlib.Omega.{arith}
 use native.Mathlib.Decide.{decLt}
 use lib.ListN.{length, getD}
-use lib.Dec.{ltb}
-use borrow.Author.Tests.{le-ltb, ltb-false}
+use borrow.Author.Tests.{le-ltb}
 use Rattle.shape.specs.Gather.{gather, any}
-use Rattle.shape.specs.Lists.{wordOf, startOf, endOf, lastEnd, runBad, longer, uneven, meshFault}
+use Rattle.shape.specs.Lists.{wordOf, startOf, endOf, lastEnd, runBad, longer, uneven, Mesh, meshFault}
+use Rattle.shape.specs.MeshMemory.{lengthsOf, roomFault}
 use Rattle.shape.specs.declared.mesh.MeshCounts.{MeshCounts}
-use Rattle.shape.specs.Refusal.{fine, refuse, taken}
+use Rattle.shape.specs.Refusal.{fine, taken}
 use Rattle.shape.specs.Strip.{kept, sixOf, verticesAt, verticesOf}
-use Rattle.shape.specs.SurfaceMesh.{Given, lanesOf, laneAt, laneVertices, laneIndices, laneSpan, spanOf, baseOf, indexOf, meshOf, inputFault, resultFault, countsOf, resultOf, answerOf}
+use Rattle.shape.specs.SurfaceMesh.{Given, lanesOf, laneAt, laneVertices, laneIndices, laneSpan, spanOf, baseOf, indexOf, meshOf, inputFault, countsOf, callFault, answerOf}
 use Rattle.shape.specs.Laws.Gather.{gather-fits, gather-at, gather-even, gather-owner, Multiple, gather-multiple}
+use Rattle.shape.specs.Laws.MeshMemory.{both-fine, room-fits}
 use Rattle.shape.specs.Laws.SurfaceMesh.{base-next, index-next, index-owner, owner-ribs, normals-match}
 use Rattle.lookup.specs.declared.sampler.Lane.the-variants.{Id}
 use Rattle.lookup.specs.Mesh.{triangles}
@@ -221,13 +222,10 @@ module _ (g : Given) where
       )
 
   -- so is what a taken call of meshing wrote
-  pub written-in-order : (v n i s : ℕ) (c : MeshCounts) → answerOf g v n i s ≡ taken c → meshFault (meshOf g) ≡ fine
-  unfolding answerOf resultOf resultFault refuse
-  written-in-order v n i s c e =
+  pub written-in-order : (before : Mesh) (c : MeshCounts) → answerOf g before ≡ taken c → meshFault (meshOf g) ≡ fine
+  unfolding answerOf callFault
+  written-in-order before c e =
       let m = meshOf g in
-      let r = judged (inputFault g) (resultOf g v n i s) c e .1 in
-      let f = judged (resultFault (length (m .vertices)) (length (m .indices)) (length (m .spans)) v n i s) (taken (countsOf (length (m .vertices)) (length (m .indices)) (length (m .spans)))) c r .0 in
-      let a = passed (ltb (3 * 65536) (length (m .vertices))) _ _ _ f in
-      let b = passed (ltb 196608 (length (m .indices))) _ _ _ (a .1) in
-      let d = passed (ltb (5 * 1024) (length (m .spans))) _ _ _ (b .1) in
-      lanes-in-order (ltb-false 196608 _ (a .0)) (ltb-false 196608 _ (b .0)) (ltb-false 5120 _ (d .0))
+      let f = judged (callFault g (lengthsOf before)) (taken (countsOf (lengthsOf m))) c e .0 in
+      let r = room-fits (lengthsOf m) (lengthsOf before) (both-fine (inputFault g) (roomFault (lengthsOf m) (lengthsOf before)) f .1) in
+      lanes-in-order (r .few-vertices) (r .few-indices) (r .few-spans)

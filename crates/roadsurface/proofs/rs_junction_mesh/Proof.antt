@@ -20,7 +20,7 @@ same-length-3 : tie.Need-same-length-3
 same-length-3 = search needs
 
 returns : tie.Need-returns
-returns c = (search code-of, (search, (search, search)))
+returns c = (search code-of, search)
 
 pub rs-junction-mesh-spec : {M : Type 1} → statement M
 rs-junction-mesh-spec = tie.close (search (tie.spec, ground-mesh-requires, tell-junction-requires, same-length, same-length-2, same-length-3, returns))

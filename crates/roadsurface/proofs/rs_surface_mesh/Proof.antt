@@ -23,7 +23,7 @@ same-length-4 : tie.Need-same-length-4
 same-length-4 = search needs
 
 returns : tie.Need-returns
-returns c = (search code-of, (search, (search, (search, (search, (search left-of, (search left-of, search left-of)))))))
+returns c = (search code-of, (search, (search left-of, (search left-of, search left-of))))
 
 pub rs-surface-mesh-spec : {M : Type 1} → statement M
 rs-surface-mesh-spec = tie.close (search (tie.spec, surface-mesh-requires, tell-mesh-requires, same-length, same-length-2, same-length-3, same-length-4, returns))
