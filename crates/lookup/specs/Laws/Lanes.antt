@@ -22,7 +22,6 @@ use Rattle.lookup.specs.declared.sampler.Lane.the-variants.{Id}
 use Rattle.lookup.specs.Mesh.{triangles}
 use Rattle.lookup.specs.Sampler.{pastOf, laneOf}
 use Rattle.lookup.specs.Demand3.{InStrip, idOf}
-use Rattle.shape.specs.Laws.Refusal.{passed}
 use Rattle.lookup.specs.Laws.Limits.{judged}
 use Rattle.lookup.specs.Laws.Spans.{past-is, lane-id}
 
