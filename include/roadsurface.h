@@ -51,6 +51,7 @@
  *   rs_surface_mesh    34 KB
  *   rs_junction_mesh   17 KB
  *   rs_ear_clip        16 KB
+ *   rs_build_index      9 KB
  *   every other       under 2 KB
  */
 #ifndef ROADSURFACE_H
