@@ -1,14 +1,14 @@
 // The operations on junction outlines.
-use crate::lent::BLANK;
-use crate::lent::front;
-use crate::lent::list_at;
-use crate::lent::number;
-use crate::lent::put_number;
-use crate::lent::put_refusal;
-use crate::lent::put_singles;
-use crate::lent::take_singles;
-use crate::lent::take_words;
-use crate::stream::put;
+use stored::lent::BLANK;
+use stored::lent::front;
+use stored::lent::list_at;
+use stored::lent::number;
+use stored::lent::put_number;
+use crate::refused::put_refusal;
+use stored::lent::put_singles;
+use stored::lent::take_singles;
+use stored::lent::take_words;
+use stored::stream::put;
 use rounding::bits::bits32;
 use shape::junction_areas::OutlineAnswer;
 use shape::junction_areas::ring;

@@ -1,10 +1,10 @@
 // The verdict on a mesh.
-use crate::lent::front;
-use crate::lent::list_at;
-use crate::lent::put_number;
-use crate::lent::put_refusal;
-use crate::lent::take_singles;
-use crate::lent::take_words;
+use stored::lent::front;
+use stored::lent::list_at;
+use stored::lent::put_number;
+use crate::refused::put_refusal;
+use stored::lent::take_singles;
+use stored::lent::take_words;
 use shape::lists::part;
 use shape::validate::Verdict;
 use shape::validate::validate;
