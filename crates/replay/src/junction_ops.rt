@@ -1,19 +1,6 @@
 // The operations on junction triangles.
 use crate::grid_ops::grid_at;
-use stored::lent::BLANK;
-use stored::lent::BLANK_WORD;
-use stored::lent::front;
-use stored::lent::front_doubles;
-use stored::lent::list_at;
-use stored::lent::number;
-use stored::lent::put_number;
 use crate::refused::put_refusal;
-use stored::lent::put_singles;
-use stored::lent::put_words;
-use stored::lent::take_doubles;
-use stored::lent::take_singles;
-use stored::lent::take_words;
-use stored::stream::put;
 use shape::ears::EarAnswer;
 use shape::ears::ear_clip;
 use shape::junction::JunctionAnswer;
@@ -21,6 +8,19 @@ use shape::junction::JunctionGrid;
 use shape::junction::mesh;
 use shape::lists::part;
 use std::num::wrapping_add_usize;
+use stored::lent::BLANK;
+use stored::lent::BLANK_WORD;
+use stored::lent::front;
+use stored::lent::front_doubles;
+use stored::lent::list_at;
+use stored::lent::number;
+use stored::lent::put_number;
+use stored::lent::put_singles;
+use stored::lent::put_words;
+use stored::lent::take_doubles;
+use stored::lent::take_singles;
+use stored::lent::take_words;
+use stored::stream::put;
 
 // ---- ear_clip
 

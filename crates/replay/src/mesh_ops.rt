@@ -1,11 +1,16 @@
 // The operations on meshes.
+use crate::refused::put_refusal;
+use shape::lists::part;
+use shape::mesh::MeshAnswer;
+use shape::mesh::surface_mesh;
+use shape::strip::no_area;
+use std::num::wrapping_add_usize;
 use stored::lent::BLANK;
 use stored::lent::BLANK_WORD;
 use stored::lent::front;
 use stored::lent::list_at;
 use stored::lent::number;
 use stored::lent::put_number;
-use crate::refused::put_refusal;
 use stored::lent::put_singles;
 use stored::lent::put_words;
 use stored::lent::take_singles;
@@ -13,11 +18,6 @@ use stored::lent::take_words;
 use stored::numbers::point;
 use stored::numbers::put_test;
 use stored::stream::put;
-use shape::lists::part;
-use shape::mesh::MeshAnswer;
-use shape::mesh::surface_mesh;
-use shape::strip::no_area;
-use std::num::wrapping_add_usize;
 
 pub fn no_area_case(given: &[u32], made: &mut [u32]) -> usize {
     let a = point(given, 0);

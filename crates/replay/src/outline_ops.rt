@@ -1,18 +1,18 @@
 // The operations on junction outlines.
+use crate::refused::put_refusal;
+use rounding::bits::bits32;
+use shape::junction_areas::OutlineAnswer;
+use shape::junction_areas::ring;
+use shape::lists::part;
 use stored::lent::BLANK;
 use stored::lent::front;
 use stored::lent::list_at;
 use stored::lent::number;
 use stored::lent::put_number;
-use crate::refused::put_refusal;
 use stored::lent::put_singles;
 use stored::lent::take_singles;
 use stored::lent::take_words;
 use stored::stream::put;
-use rounding::bits::bits32;
-use shape::junction_areas::OutlineAnswer;
-use shape::junction_areas::ring;
-use shape::lists::part;
 
 fn truth(yes: bool) -> usize {
     if yes { 1 } else { 0 }
