@@ -1,16 +1,5 @@
 // The operations on elevation grids.
-use crate::lent::front;
-use crate::lent::front_doubles;
-use crate::lent::list_at;
-use crate::lent::number;
-use crate::lent::put_number;
-use crate::lent::take_doubles;
-use crate::lent::take_words;
-use crate::lent::told;
-use crate::numbers::double;
-use crate::numbers::put_wide;
-use crate::stream::put;
-use crate::stream::word;
+use crate::refused::told;
 use rounding::bits::bits64;
 use rounding::bits::from_bits64;
 use shape::elevation::Across;
@@ -24,6 +13,17 @@ use shape::elevation::height;
 use shape::elevation::height_at;
 use shape::elevation::row_slopes;
 use std::num::wrapping_add_usize;
+use stored::lent::front;
+use stored::lent::front_doubles;
+use stored::lent::list_at;
+use stored::lent::number;
+use stored::lent::put_number;
+use stored::lent::take_doubles;
+use stored::lent::take_words;
+use stored::numbers::double;
+use stored::numbers::put_wide;
+use stored::stream::put;
+use stored::stream::word;
 
 // ---- patch
 

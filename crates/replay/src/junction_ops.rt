@@ -1,19 +1,6 @@
 // The operations on junction triangles.
 use crate::grid_ops::grid_at;
-use crate::lent::BLANK;
-use crate::lent::BLANK_WORD;
-use crate::lent::front;
-use crate::lent::front_doubles;
-use crate::lent::list_at;
-use crate::lent::number;
-use crate::lent::put_number;
-use crate::lent::put_refusal;
-use crate::lent::put_singles;
-use crate::lent::put_words;
-use crate::lent::take_doubles;
-use crate::lent::take_singles;
-use crate::lent::take_words;
-use crate::stream::put;
+use crate::refused::put_refusal;
 use shape::ears::EarAnswer;
 use shape::ears::ear_clip;
 use shape::junction::JunctionAnswer;
@@ -21,6 +8,19 @@ use shape::junction::JunctionGrid;
 use shape::junction::mesh;
 use shape::lists::part;
 use std::num::wrapping_add_usize;
+use stored::lent::BLANK;
+use stored::lent::BLANK_WORD;
+use stored::lent::front;
+use stored::lent::front_doubles;
+use stored::lent::list_at;
+use stored::lent::number;
+use stored::lent::put_number;
+use stored::lent::put_singles;
+use stored::lent::put_words;
+use stored::lent::take_doubles;
+use stored::lent::take_singles;
+use stored::lent::take_words;
+use stored::stream::put;
 
 // ---- ear_clip
 

@@ -2,17 +2,8 @@
 // the room for an index, or the words of one and the points. The answer to each point has the same number
 // of words. Where all points are asked in one call, the room for their records stands behind them, and the
 // answer is that of a call that writes.
-use crate::lent::BLANK_WORD;
-use crate::lent::front;
-use crate::lent::list_at;
-use crate::lent::number;
-use crate::lent::put_number;
-use crate::lent::put_refusal;
-use crate::lent::put_words;
-use crate::lent::take_singles;
-use crate::lent::take_words;
-use crate::lent::told;
-use crate::stream::put;
+use crate::refused::put_refusal;
+use crate::refused::told;
 use lookup::grid::Built;
 use lookup::grid::build;
 use lookup::mesh::Answer;
@@ -26,6 +17,15 @@ use rounding::bits::bits32;
 use shape::lists::part;
 use shape::refusal::Refusal;
 use std::num::wrapping_add_usize;
+use stored::lent::BLANK_WORD;
+use stored::lent::front;
+use stored::lent::list_at;
+use stored::lent::number;
+use stored::lent::put_number;
+use stored::lent::put_words;
+use stored::lent::take_singles;
+use stored::lent::take_words;
+use stored::stream::put;
 use vector::coords::Vector;
 
 fn put_single(made: &mut [u32], at: usize, x: f32) -> usize {

@@ -4,35 +4,33 @@
 // and these. A line for each block says how many cases differ, and the last line for all.
 mod grid_ops;
 mod junction_ops;
-mod lent;
 mod lookup_ops;
 mod mesh_ops;
 mod names;
-mod numbers;
 mod outline_ops;
 mod probe_ops;
-mod rounding_ops;
+mod refused;
 mod shape_ops;
-mod stream;
-mod text;
-mod vector_ops;
 mod verdict_ops;
 
 ghost use mathlib.Core.Path.{_≡_};
 ghost use mathlib.Core.Bool.{true};
 ghost use Prim.Native.Nat.{ℕ, _<_};
-ghost use Rattle.replay.specs.Words.{getWord};
-use rounding_ops::may_panic;
-use stream::Place;
-use stream::list;
-use stream::next;
-use stream::start;
-use stream::word;
-use text::Tally;
-use text::block_line;
-use text::both;
-use text::last_line;
-use text::nothing;
+ghost use Rattle.stored.specs.Words.{getWord};
+use names::name;
+use stored::rounding_ops;
+use stored::rounding_ops::may_panic;
+use stored::stream::Place;
+use stored::stream::list;
+use stored::stream::next;
+use stored::stream::start;
+use stored::stream::word;
+use stored::text::Tally;
+use stored::text::block_line;
+use stored::text::both;
+use stored::text::last_line;
+use stored::text::nothing;
+use stored::vector_ops;
 
 // How a case came out. The list goes on unless it is broken: it breaks off, or the case has more words
 // than there is room for.
@@ -254,7 +252,8 @@ fn cases(
 fn added(op: u32, run: Run, all: Tally) -> Progress {
     let tally = run.tally;
     let place = run.place;
-    block_line(op, tally, run.first);
+    name(op);
+    block_line(tally, run.first);
     Progress {
         more: !run.broken,
         broken: run.broken,

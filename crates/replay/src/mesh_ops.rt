@@ -1,23 +1,23 @@
 // The operations on meshes.
-use crate::lent::BLANK;
-use crate::lent::BLANK_WORD;
-use crate::lent::front;
-use crate::lent::list_at;
-use crate::lent::number;
-use crate::lent::put_number;
-use crate::lent::put_refusal;
-use crate::lent::put_singles;
-use crate::lent::put_words;
-use crate::lent::take_singles;
-use crate::lent::take_words;
-use crate::numbers::point;
-use crate::numbers::put_test;
-use crate::stream::put;
+use crate::refused::put_refusal;
 use shape::lists::part;
 use shape::mesh::MeshAnswer;
 use shape::mesh::surface_mesh;
 use shape::strip::no_area;
 use std::num::wrapping_add_usize;
+use stored::lent::BLANK;
+use stored::lent::BLANK_WORD;
+use stored::lent::front;
+use stored::lent::list_at;
+use stored::lent::number;
+use stored::lent::put_number;
+use stored::lent::put_singles;
+use stored::lent::put_words;
+use stored::lent::take_singles;
+use stored::lent::take_words;
+use stored::numbers::point;
+use stored::numbers::put_test;
+use stored::stream::put;
 
 pub fn no_area_case(given: &[u32], made: &mut [u32]) -> usize {
     let a = point(given, 0);

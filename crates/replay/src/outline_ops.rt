@@ -1,18 +1,18 @@
 // The operations on junction outlines.
-use crate::lent::BLANK;
-use crate::lent::front;
-use crate::lent::list_at;
-use crate::lent::number;
-use crate::lent::put_number;
-use crate::lent::put_refusal;
-use crate::lent::put_singles;
-use crate::lent::take_singles;
-use crate::lent::take_words;
-use crate::stream::put;
+use crate::refused::put_refusal;
 use rounding::bits::bits32;
 use shape::junction_areas::OutlineAnswer;
 use shape::junction_areas::ring;
 use shape::lists::part;
+use stored::lent::BLANK;
+use stored::lent::front;
+use stored::lent::list_at;
+use stored::lent::number;
+use stored::lent::put_number;
+use stored::lent::put_singles;
+use stored::lent::take_singles;
+use stored::lent::take_words;
+use stored::stream::put;
 
 fn truth(yes: bool) -> usize {
     if yes { 1 } else { 0 }

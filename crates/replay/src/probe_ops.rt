@@ -1,11 +1,11 @@
 // The text that a surface file gives. A case is how many bytes the file has, and these in words, the low
 // byte first, filled up with 0. The answer has the text in the same form.
-use crate::lent::number;
-use crate::lent::put_number;
-use crate::stream::put;
-use crate::stream::word;
-use crate::stream::word_at;
 use std::num::wrapping_add_usize;
+use stored::lent::number;
+use stored::lent::put_number;
+use stored::stream::put;
+use stored::stream::word;
+use stored::stream::word_at;
 use surface::file::Copied;
 use surface::report::report;
 

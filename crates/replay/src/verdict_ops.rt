@@ -1,13 +1,13 @@
 // The verdict on a mesh.
-use crate::lent::front;
-use crate::lent::list_at;
-use crate::lent::put_number;
-use crate::lent::put_refusal;
-use crate::lent::take_singles;
-use crate::lent::take_words;
+use crate::refused::put_refusal;
 use shape::lists::part;
 use shape::validate::Verdict;
 use shape::validate::validate;
+use stored::lent::front;
+use stored::lent::list_at;
+use stored::lent::put_number;
+use stored::lent::take_singles;
+use stored::lent::take_words;
 
 // What is found, by the oracle's number, and up to three numbers with it.
 fn put_found(made: &mut [u32], kind: usize, a: usize, b: usize, c: usize) -> usize {
