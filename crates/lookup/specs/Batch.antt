@@ -9,10 +9,10 @@ use Rattle.vector.specs.declared.coords.Vector.{Vector}
 use Rattle.shape.specs.Gather.{gather}
 use Rattle.shape.specs.Lists.{Mesh, uneven}
 use Rattle.shape.specs.Refusal.{fine, refuse, Answer, taken, refused, judge, numberOf, placeOf}
-use Rattle.lookup.specs.declared.sampler.Lane.{Lane}
-use Rattle.lookup.specs.declared.sampler.Lane.the-variants.{Id, None}
-use Rattle.lookup.specs.declared.sampler.Sampling.{Sampling}
-use Rattle.lookup.specs.declared.sampler.Sampling.the-variants.{Count, Refused}
+use Rattle.lookup.specs.declared.lane.Lane.{Lane}
+use Rattle.lookup.specs.declared.lane.Lane.the-variants.{Id, None}
+use Rattle.lookup.specs.declared.record.Sampling.{Sampling}
+use Rattle.lookup.specs.declared.record.Sampling.the-variants.{Count, Refused}
 use Rattle.lookup.specs.Mesh.{triangles}
 use Rattle.lookup.specs.Consult.{headFault}
 use Rattle.lookup.specs.Sampler.{Sample, hit, miss, topFault, topOf}

@@ -12,8 +12,8 @@ use Rattle.vector.specs.declared.coords.Vector.{Vector}
 use Rattle.shape.specs.Lists.{Mesh, wordOf, meshFault}
 use Rattle.shape.specs.Refusal.{fine, taken, refused, leaves}
 use Rattle.shape.specs.SurfaceMesh.{Given, lanesOf, indexOf, meshOf}
-use Rattle.lookup.specs.declared.sampler.Lane.{Lane}
-use Rattle.lookup.specs.declared.sampler.Lane.the-variants.{Id}
+use Rattle.lookup.specs.declared.lane.Lane.{Lane}
+use Rattle.lookup.specs.declared.lane.Lane.the-variants.{Id}
 use Rattle.lookup.specs.declared.sampler.Detail.{Detail}
 use Rattle.lookup.specs.Box.{inBox}
 use Rattle.lookup.specs.Plain.{Lookup, gives, none, answerOf}

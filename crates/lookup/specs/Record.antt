@@ -2,7 +2,7 @@
 use Prim.Native.Nat.{ℕ, _<_}
 use lib.Dec.{ltb}
 use Rattle.shape.specs.Refusal.{fine, refuse, Answer, taken, refused, judge}
-use Rattle.lookup.specs.declared.sampler.Lane.the-variants.{None}
+use Rattle.lookup.specs.declared.lane.Lane.the-variants.{None}
 use Rattle.lookup.specs.Plain.{Lookup, gives, none}
 use Rattle.lookup.specs.Sampler.{Sample, hit, miss}
 use Rattle.lookup.specs.Batch.{recordWords, laneId}

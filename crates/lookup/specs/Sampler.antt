@@ -10,8 +10,8 @@ use Rattle.shape.specs.Lists.{Mesh, longer, wordOf, startOf, endOf, meshLimits,
 use Rattle.shape.specs.Refusal.{Fault, fine, refuse, orElse, Answer, taken, refused, judge, numberOf, placeOf}
 use Rattle.lookup.specs.declared.mesh.Best.{Best}
 use Rattle.lookup.specs.declared.mesh.Best.the-variants.{At, Nothing}
-use Rattle.lookup.specs.declared.sampler.Lane.{Lane}
-use Rattle.lookup.specs.declared.sampler.Lane.the-variants.{Id, None}
+use Rattle.lookup.specs.declared.lane.Lane.{Lane}
+use Rattle.lookup.specs.declared.lane.Lane.the-variants.{Id, None}
 use Rattle.lookup.specs.declared.sampler.Detail.{Detail}
 use Rattle.lookup.specs.declared.sampler.Sampled.{Sampled}
 use Rattle.lookup.specs.declared.sampler.Sampled.the-variants as sampled

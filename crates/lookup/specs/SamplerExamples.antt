@@ -11,7 +11,7 @@ use Rattle.shape.specs.Refusal.{taken, refused, refuse, orElse, judge}
 use Rattle.shape.specs.Lists.{Mesh, meshLists, pointAt, wordOf, longer, uneven, runBad, meshLimits, meshRagged}
 use Rattle.vector.specs.Single.{single, 0f, 1f}
 use Rattle.vector.specs.declared.coords.Vector.{Vector}
-use Rattle.lookup.specs.declared.sampler.Lane.the-variants.{Id, None}
+use Rattle.lookup.specs.declared.lane.Lane.the-variants.{Id, None}
 use Rattle.lookup.specs.Mesh.{present, cornersOf}
 use Rattle.lookup.specs.Cover.{covers, weightsAt, weightsOf, detOf, overA, weightA, weightB, insideOf}
 use Rattle.lookup.specs.Plain.{scanOf, Lookup, none, answerOf}

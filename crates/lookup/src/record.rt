@@ -9,22 +9,37 @@ ghost use Rattle.shape.specs.Memory.{Put};
 ghost use Rattle.shape.specs.Refusal.{taken, leaves};
 ghost use Rattle.lookup.specs.Plain.{answerOf, readAnswer};
 ghost use Rattle.lookup.specs.Sampler.{Sample, readSampled, topOf};
-ghost use Rattle.lookup.specs.Batch.{recordWords, recordOf, readSampling};
+ghost use Rattle.lookup.specs.Batch.{recordWords, wordFor, recordOf, readSampling};
 ghost use Rattle.lookup.specs.Record.{plainSample, roomFor, recordAnswer, RecordFits};
+use crate::lane::Lane;
+use crate::lane::lane_id;
+use crate::lane::lane_there;
 use crate::mesh::Answer;
 use crate::mesh::height_at;
 use crate::sampler::Detail;
-use crate::sampler::Lane;
 use crate::sampler::Sampled;
-use crate::sampler::Sampling;
-use crate::sampler::lane_id;
-use crate::sampler::lane_there;
 use crate::sampler::top;
-use crate::sampler::word;
 use rounding::bits::bits32;
 use shape::refusal::Refusal;
 use shape::refusal::number;
 use shape::refusal::place;
+
+// What came of a call for many points: how many there were, or why it was turned back.
+pub enum Sampling {
+    Count(usize),
+    Refused(Refusal),
+}
+
+// A number as a word; past the greatest word, that word. No answer has such a number.
+pub fn word(n: usize) -> u32
+    ensures { λ r. ⌜ r ≡ wordFor n ⌝ }
+{
+    if n < 0x1_0000_0000 {
+        n as u32
+    } else {
+        0xffff_ffff
+    }
+}
 
 // How many words a record has: `recordWords` of the definitions.
 pub const RECORD_WORDS: usize = 8;

@@ -4,15 +4,15 @@
 // answer is that of a call that writes.
 use crate::refused::put_refusal;
 use crate::refused::told;
+use lookup::batch::tops;
 use lookup::grid::Built;
 use lookup::grid::build;
+use lookup::lane::Lane;
 use lookup::mesh::Answer;
 use lookup::mesh::height_at;
-use lookup::sampler::Lane;
+use lookup::record::Sampling;
 use lookup::sampler::Sampled;
-use lookup::sampler::Sampling;
 use lookup::sampler::top;
-use lookup::sampler::tops;
 use rounding::bits::bits32;
 use shape::lists::part;
 use shape::refusal::Refusal;

@@ -23,8 +23,8 @@ use Rattle.shape.specs.Laws.Memory.{put-front, put-length}
 use Rattle.lookup.specs.declared.grid.Built.{Built}
 use Rattle.lookup.specs.declared.grid.Built.the-variants as built
 use Rattle.lookup.specs.Index.{buildOf, roomFault, answerTo, readBuilt, indexWords}
-use Rattle.lookup.specs.declared.sampler.Sampling.{Sampling}
-use Rattle.lookup.specs.declared.sampler.Sampling.the-variants as sampling
+use Rattle.lookup.specs.declared.record.Sampling.{Sampling}
+use Rattle.lookup.specs.declared.record.Sampling.the-variants as sampling
 use Rattle.lookup.specs.Batch.{recordWords, recordsOf, topsOf, readSampling}
 use Rattle.surface.specs.declared.held.Sizes.{Sizes}
 use Rattle.surface.specs.declared.file.Copied.{Copied}

@@ -18,7 +18,7 @@ use Rattle.shape.specs.Laws.Gather.{gather-even}
 use Rattle.shape.specs.Refusal.{Fault, fine, fault, Answer, taken, refused, judge, leaves}
 use Rattle.lookup.specs.declared.mesh.Best.{Best}
 use Rattle.lookup.specs.declared.mesh.Best.the-variants.{At, Nothing}
-use Rattle.lookup.specs.declared.sampler.Lane.the-variants.{Id, None}
+use Rattle.lookup.specs.declared.lane.Lane.the-variants.{Id, None}
 use Rattle.lookup.specs.Mesh.{triangles}
 use Rattle.lookup.specs.Plain.{scanOf, entryOf, lookupOf, plainOf, answerOf}
 use Rattle.lookup.specs.Consult.{Place, runIn, consultOf}

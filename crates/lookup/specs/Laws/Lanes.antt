@@ -18,7 +18,7 @@ use Rattle.shape.specs.SurfaceMesh.{Given, lanesOf, laneAt, laneVertices, laneI
 use Rattle.shape.specs.Laws.Gather.{gather-fits, gather-at, gather-even, gather-owner, Multiple, gather-multiple}
 use Rattle.shape.specs.Laws.MeshMemory.{both-fine, room-fits}
 use Rattle.shape.specs.Laws.SurfaceMesh.{base-next, index-next, index-owner, owner-ribs, normals-match}
-use Rattle.lookup.specs.declared.sampler.Lane.the-variants.{Id}
+use Rattle.lookup.specs.declared.lane.Lane.the-variants.{Id}
 use Rattle.lookup.specs.Mesh.{triangles}
 use Rattle.lookup.specs.Sampler.{pastOf, laneOf}
 use Rattle.lookup.specs.Demand3.{InStrip, idOf}

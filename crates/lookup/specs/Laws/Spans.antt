@@ -11,7 +11,7 @@ use borrow.Author.Tests.{lt-ltb, le-ltb, le-leb, lt-leb}
 use Rattle.shape.specs.Gather.{any}
 use Rattle.shape.specs.Lists.{wordOf, startOf, endOf, lastEnd, runBad}
 use Rattle.shape.specs.Laws.Lists.{sound}
-use Rattle.lookup.specs.declared.sampler.Lane.the-variants.{Id, None}
+use Rattle.lookup.specs.declared.lane.Lane.the-variants.{Id, None}
 use Rattle.lookup.specs.Sampler.{EndsRise, pastOf, laneOf}
 
 -- where no run of indices is ragged, their ends rise

@@ -1,4 +1,4 @@
--- `lookup::sampler::tops_empty` meets its contract. The invariant: the record of no height stands k times at the front. Assumes nothing.
+-- `lookup::batch::tops_empty` meets its contract. The invariant: the record of no height stands k times at the front. Assumes nothing.
 use Prim.Native.Nat.{ℕ, _-_, _*_, _/_, _≤_}
 use mathlib.Core.Path.{_≡_}
 use native.Mathlib.Omega.{arith}
@@ -12,8 +12,8 @@ use Rattle.lookup.specs.Batch.{recordWords, recordOf, readSampling}
 use Rattle.lookup.specs.Record.{RecordFits}
 use Rattle.lookup.proofs.Batches.{record-next, same-width, count-short, count-all}
 use borrow.Author.Needs.{needs}
-use Rattle.lookup.proofs.sampler.tops_empty.Statement.{statement}
-use Rattle.lookup.proofs.sampler.tops_empty.Tie as tie
+use Rattle.lookup.proofs.batch.tops_empty.Statement.{statement}
+use Rattle.lookup.proofs.batch.tops_empty.Tie as tie
 
 abbrev Inv-loop : tie.InvT-loop
 Inv-loop points answers₀ n at₀ k₀ answers at k = Put answers₀ answers 0 (gather (λ (i : ℕ). recordOf (taken miss)) k) at × ((at ≡ recordWords * k) × (k ≤ n))

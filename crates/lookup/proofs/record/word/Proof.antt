@@ -1,9 +1,9 @@
--- `lookup::sampler::word` meets its contract. Assumes nothing.
+-- `lookup::record::word` meets its contract. Assumes nothing.
 use borrow.Author.Tests.{lt-ltb, le-ltb}
 use Rattle.lookup.specs.Batch.{wordFor}
 use borrow.Author.Needs.{needs}
-use Rattle.lookup.proofs.sampler.word.Statement.{statement}
-use Rattle.lookup.proofs.sampler.word.Tie as tie
+use Rattle.lookup.proofs.record.word.Statement.{statement}
+use Rattle.lookup.proofs.record.word.Tie as tie
 
 cast-result : tie.Need-cast-result
 cast-result c = search needs

@@ -1,4 +1,4 @@
--- `lookup::sampler::tops_open` meets its contract. The invariant: the records of the points before k stand at the front. Assumes nothing.
+-- `lookup::batch::tops_open` meets its contract. The invariant: the records of the points before k stand at the front. Assumes nothing.
 use Prim.Native.Nat.{_-_, _*_, _/_, _≤_}
 use mathlib.Core.Path.{_≡_}
 use native.Mathlib.Omega.{arith}
@@ -11,8 +11,8 @@ use Rattle.shape.specs.Laws.Memory.{put-none, put-turn, put-length}
 use Rattle.lookup.specs.Batch.{recordWords, recordAt, recordsOf, readSampling}
 use Rattle.lookup.proofs.Batches.{at-next, all-width, count-short, count-all}
 use borrow.Author.Needs.{needs}
-use Rattle.lookup.proofs.sampler.tops_open.Statement.{statement}
-use Rattle.lookup.proofs.sampler.tops_open.Tie as tie
+use Rattle.lookup.proofs.batch.tops_open.Statement.{statement}
+use Rattle.lookup.proofs.batch.tops_open.Tie as tie
 
 abbrev Inv-loop : tie.InvT-loop
 Inv-loop vertices normals indices spans index h points answers₀ n at₀ k₀ answers at k =

@@ -1,8 +1,8 @@
--- `lookup::sampler::lane_there` meets its contract, case by case. Assumes nothing.
+-- `lookup::lane::lane_there` meets its contract, case by case. Assumes nothing.
 use Rattle.lookup.specs.Batch.{laneThere}
 use borrow.Author.Needs.{needs}
-use Rattle.lookup.proofs.sampler.lane_there.Statement.{statement}
-use Rattle.lookup.proofs.sampler.lane_there.Tie as tie
+use Rattle.lookup.proofs.lane.lane_there.Statement.{statement}
+use Rattle.lookup.proofs.lane.lane_there.Tie as tie
 
 enum-known-l : tie.Need-enum-known-l
 enum-known-l c = search needs

@@ -1,9 +1,9 @@
--- `lookup::sampler::half_of` meets its contract: the end of the span in the middle picks the half. Assumes nothing.
+-- `lookup::lane::half_of` meets its contract: the end of the span in the middle picks the half. Assumes nothing.
 use native.Mathlib.Omega.{arith}
 use borrow.Author.Needs.{needs}
 use Rattle.lookup.proofs.Search.{half}
-use Rattle.lookup.proofs.sampler.half_of.Statement.{statement}
-use Rattle.lookup.proofs.sampler.half_of.Tie as tie
+use Rattle.lookup.proofs.lane.half_of.Statement.{statement}
+use Rattle.lookup.proofs.lane.half_of.Tie as tie
 
 returns : tie.Need-returns
 returns c = search needs

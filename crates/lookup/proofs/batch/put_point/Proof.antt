@@ -1,11 +1,11 @@
--- `lookup::sampler::put_point` meets its contract: the answer there is `sample_in`'s, and its numbers are words. Assumes nothing.
+-- `lookup::batch::put_point` meets its contract: the answer there is `sample_in`'s, and its numbers are words. Assumes nothing.
 use Rattle.shape.specs.Lists.{Mesh, meshLists}
 use Rattle.lookup.specs.Batch.{recordAt}
 use Rattle.lookup.specs.Laws.Batch.{top-words}
 use native.Mathlib.Omega.{arith}
 use borrow.Author.Needs.{needs}
-use Rattle.lookup.proofs.sampler.put_point.Statement.{statement}
-use Rattle.lookup.proofs.sampler.put_point.Tie as tie
+use Rattle.lookup.proofs.batch.put_point.Statement.{statement}
+use Rattle.lookup.proofs.batch.put_point.Tie as tie
 
 -- the mesh
 abbrev M : tie.Start → Mesh

@@ -1,11 +1,11 @@
--- `lookup::sampler::span_past` meets its contract: ten halves leave at most one span. Assumes nothing.
+-- `lookup::lane::span_past` meets its contract: ten halves leave at most one span. Assumes nothing.
 use Prim.Native.Nat.{_≤_}
 use native.Mathlib.Omega.{arith}
 use borrow.Author.Needs.{needs}
 use Rattle.shape.specs.Lists.{wordOf}
 use Rattle.lookup.proofs.Search.{whole, ended, one-left, ten}
-use Rattle.lookup.proofs.sampler.span_past.Statement.{statement}
-use Rattle.lookup.proofs.sampler.span_past.Tie as tie
+use Rattle.lookup.proofs.lane.span_past.Statement.{statement}
+use Rattle.lookup.proofs.lane.span_past.Tie as tie
 
 abbrev S : tie.After-half-of10 → tie.Start
 S c = c .before .before .before .before .before .before .before .before .before .before .before

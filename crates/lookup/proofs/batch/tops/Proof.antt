@@ -1,4 +1,4 @@
--- `lookup::sampler::tops` meets its contract, by the test that led to each return. Assumes nothing.
+-- `lookup::batch::tops` meets its contract, by the test that led to each return. Assumes nothing.
 use mathlib.Core.Path.{_≡_, refl}
 use Rattle.shape.specs.Lists.{Mesh, meshLists}
 use Rattle.shape.specs.Refusal.{fine, taken, numberOf, placeOf}
@@ -9,8 +9,8 @@ use Rattle.lookup.proofs.Chain.{sound, faulty}
 use Rattle.lookup.proofs.Fronts.{open-is, empty-is, head-is}
 use Rattle.lookup.proofs.Batches.{all-same, said-faulty, said-ragged, said-foreign, said-rest}
 use borrow.Author.Needs.{needs}
-use Rattle.lookup.proofs.sampler.tops.Statement.{statement}
-use Rattle.lookup.proofs.sampler.tops.Tie as tie
+use Rattle.lookup.proofs.batch.tops.Statement.{statement}
+use Rattle.lookup.proofs.batch.tops.Tie as tie
 
 -- the mesh
 abbrev M : tie.Start → Mesh

@@ -1,9 +1,9 @@
--- `lookup::sampler::lane_of` meets its contract: the span found and its start pick the case of `laneOf`. Assumes nothing.
+-- `lookup::lane::lane_of` meets its contract: the span found and its start pick the case of `laneOf`. Assumes nothing.
 use native.Mathlib.Omega.{arith}
 use borrow.Author.Needs.{needs}
 use Rattle.lookup.specs.Laws.Spans.{lane-id, lane-before, lane-past}
-use Rattle.lookup.proofs.sampler.lane_of.Statement.{statement}
-use Rattle.lookup.proofs.sampler.lane_of.Tie as tie
+use Rattle.lookup.proofs.lane.lane_of.Statement.{statement}
+use Rattle.lookup.proofs.lane.lane_of.Tie as tie
 
 mul-i : tie.Need-mul-i
 mul-i c = omega (arith, c .before .pre .0)

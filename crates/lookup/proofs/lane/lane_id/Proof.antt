@@ -1,8 +1,8 @@
--- `lookup::sampler::lane_id` meets its contract, case by case. Assumes nothing.
+-- `lookup::lane::lane_id` meets its contract, case by case. Assumes nothing.
 use Rattle.lookup.specs.Batch.{laneId}
 use borrow.Author.Needs.{needs}
-use Rattle.lookup.proofs.sampler.lane_id.Statement.{statement}
-use Rattle.lookup.proofs.sampler.lane_id.Tie as tie
+use Rattle.lookup.proofs.lane.lane_id.Statement.{statement}
+use Rattle.lookup.proofs.lane.lane_id.Tie as tie
 
 enum-known-l : tie.Need-enum-known-l
 enum-known-l c = search needs
