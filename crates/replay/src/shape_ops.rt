@@ -1,7 +1,7 @@
-// The operations of the layers from the shapes on over words. An operation's number is its place in the oracle's
-// list, and a number 300 higher is the same operation, for cases at its limits. Of a call on lent lists
-// the case gives these, and the room in each output. The answer is 0 and what the call answers, or a
-// refusal's number and place; and then the lent memory whole.
+// The operations of the layers from the shapes on over words. An operation's number is its place in the
+// oracle's list, and a number 300 higher is the same operation, for cases at its limits. Of a call on
+// lent lists the case gives these, and the room in each output. The answer is 0 and what the call
+// answers, or a refusal's number and place; and then the lent memory whole.
 use crate::grid_ops;
 use crate::junction_ops;
 use crate::lookup_ops;

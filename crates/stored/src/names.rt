@@ -1,4 +1,5 @@
-// The names of the operations of the rounding and the vector layer, each where the operation's number says.
+// The names of the operations of the rounding and the vector layer, each where the operation's number
+// says.
 use libc::STDOUT_FILENO;
 
 // Writes the letter c if it is of word k: n is how many spaces stand before it. The answer is how many
