@@ -46,7 +46,7 @@
  * What is trusted. The floating-point environment is the usual one: rounding to nearest, ties to even;
  * subnormals kept; no exception trapped. A program linked with -ffast-math may flush subnormals for the whole
  * process: a vertex of height z = 1e-39 then gives 0. The calls take no memory but the caller's stack, about:
- *   rs_report         222 KB
+ *   rs_report         231 KB
  *   rs_ring            50 KB
  *   rs_surface_mesh    34 KB
  *   rs_junction_mesh   17 KB
