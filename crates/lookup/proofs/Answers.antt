@@ -1,5 +1,5 @@
 -- What is located and scanned picks the case of `topOf`. Assumes nothing.
-use Prim.Native.Nat.{ℕ, _-_, _<_}
+use Prim.Native.Nat.{ℕ, _-_}
 use mathlib.Core.Path.{_≡_, sym}
 use mathlib.Core.List.{List}
 use native.Mathlib.Omega.{arith}

@@ -144,6 +144,12 @@ low-fails x h = is-false (le slack x) (not-T (le slack x) (lt→not-le x slack (
 -- the lesser of two weights, and of that and the third
 pub low-outside : (w : Weights) (l m : Float) → (l ≡ w .a) ⊎ (l ≡ w .b) → (m ≡ l) ⊎ (m ≡ w .c) → lt m slack ≡ true → insideOf w ≡ false
 unfolding insideOf
-low-outside w l m h (inr k) e = one-fails (not (lt (absOf (w .det)) thinnest)) (le slack (w .a)) (le slack (w .b)) (le slack (w .c)) (inr (inr (low-fails (w .c) (subst (λ (z : Float). lt z slack ≡ true) k e))))
-low-outside w l m (inl h) (inl k) e = one-fails (not (lt (absOf (w .det)) thinnest)) (le slack (w .a)) (le slack (w .b)) (le slack (w .c)) (inl (low-fails (w .a) (subst (λ (z : Float). lt z slack ≡ true) h (subst (λ (z : Float). lt z slack ≡ true) k e))))
-low-outside w l m (inr h) (inl k) e = one-fails (not (lt (absOf (w .det)) thinnest)) (le slack (w .a)) (le slack (w .b)) (le slack (w .c)) (inr (inl (low-fails (w .b) (subst (λ (z : Float). lt z slack ≡ true) h (subst (λ (z : Float). lt z slack ≡ true) k e)))))
+low-outside w l m h (inr k) e =
+    one-fails (not (lt (absOf (w .det)) thinnest)) (le slack (w .a)) (le slack (w .b)) (le slack (w .c))
+    (inr (inr (low-fails (w .c) (subst (λ (z : Float). lt z slack ≡ true) k e))))
+low-outside w l m (inl h) (inl k) e =
+    one-fails (not (lt (absOf (w .det)) thinnest)) (le slack (w .a)) (le slack (w .b)) (le slack (w .c))
+    (inl (low-fails (w .a) (subst (λ (z : Float). lt z slack ≡ true) h (subst (λ (z : Float). lt z slack ≡ true) k e))))
+low-outside w l m (inr h) (inl k) e =
+    one-fails (not (lt (absOf (w .det)) thinnest)) (le slack (w .a)) (le slack (w .b)) (le slack (w .c))
+    (inr (inl (low-fails (w .b) (subst (λ (z : Float). lt z slack ≡ true) h (subst (λ (z : Float). lt z slack ≡ true) k e)))))

@@ -4,12 +4,13 @@ pub mod Distant
 pub mod Sums
 pub mod Visit
 pub mod Runs
+pub mod Pairs
 pub mod Chain
 pub mod Search
 pub mod Batches
 pub mod Digits
 pub mod Blocks
-pub mod Level
+pub mod Straight
 pub mod Picking
 pub mod Places
 pub mod Tallies

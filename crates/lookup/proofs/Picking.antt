@@ -3,21 +3,21 @@ use mathlib.Core.Path.{_≡_, sym, ap, _∙_, subst}
 use mathlib.Core.Bool.{Bool, true, false, true≢false}
 use mathlib.Core.List.{List}
 use Prim.Native.Nat.{ℕ}
-use lib.Ieee.{Float, nan, inf, fin, binary32, add, sub, lt, le, eq, ne, isNan}
+use lib.Ieee.{Float, nan, inf, fin, binary32, add, lt, le, eq, ne, isNan}
 use lib.Ieee.Bits.{is-true, is-false}
 use Rattle.rounding.specs.Extremes.{first, ge, minOf, maxOf}
 use Rattle.rounding.specs.Laws.Order.{IsNum, T-of, not-nan-num, num-of-same, nan-of-differs, lt-num-left, lt-num-right, lt-iff-not-le, le-of-not-lt}
-use Rattle.rounding.specs.Laws.Sums.{add-num-left, add-num-right}
+use Rattle.rounding.specs.Laws.Sums.{add-num-left, add-num-right, sub-num-left}
 use Rattle.vector.specs.declared.coords.Point.{Point}
 use Rattle.lookup.specs.Mesh.{cornersOf}
-use Rattle.lookup.specs.Box.{aroundOf, grownOf, grownBox, boxOf, mergeOf}
+use Rattle.lookup.specs.Box.{aroundOf, slackOf, grownOf, grownBox, boxOf, mergeOf}
 use Rattle.lookup.specs.Index.{blockOf, blocksOf}
 use Rattle.lookup.specs.declared.mesh.Fetch.{Fetch}
 use Rattle.lookup.specs.declared.mesh.Fetch.the-variants.{Corners, Missing}
 use Rattle.lookup.specs.declared.frame.Frame.{Frame}
 use Rattle.lookup.specs.declared.frame.Block.{Block}
 use Rattle.lookup.specs.Steps.{Picked, Sound}
-use Rattle.lookup.specs.declared.boxes.Bounds.{Bounds}
+use Rattle.lookup.specs.declared.boxes.Aabb.{Aabb}
 use Rattle.lookup.specs.declared.boxes.Boxed.{Boxed}
 use Rattle.lookup.specs.declared.boxes.Boxed.the-variants.{Box, None}
 
@@ -81,18 +81,35 @@ module _ (pick : Float → Float → Float) (x y z p r : Float) (one : Picked pi
 module _ (a b c : Point) (l₁ l₂ l₃ l₄ u₁ u₂ u₃ u₄ : Float)
     (A : Picked minOf (a .x) (b .x) l₁) (B : Picked minOf l₁ (c .x) l₂) (C : Picked minOf (a .y) (b .y) l₃) (D : Picked minOf l₃ (c .y) l₄)
     (E : Picked maxOf (a .x) (b .x) u₁) (F : Picked maxOf u₁ (c .x) u₂) (G : Picked maxOf (a .y) (b .y) u₃) (H : Picked maxOf u₃ (c .y) u₄) where
-  leveled : IsNum (a .x) → IsNum (a .y) → _≡_ {A = Bounds} (record { «min_x» = l₂; «min_y» = l₄; «max_x» = u₂; «max_y» = u₄ }) (aroundOf a b c)
+  leveled : IsNum (a .x) → IsNum (a .y) → _≡_ {A = Aabb} (record { «min_x» = l₂; «min_y» = l₄; «max_x» = u₂; «max_y» = u₄ }) (aroundOf a b c)
   unfolding aroundOf
-  leveled nx ny = rw (three minOf (a .x) (b .x) (c .x) l₁ l₂ A B nx, three minOf (a .y) (b .y) (c .y) l₃ l₄ C D ny, three maxOf (a .x) (b .x) (c .x) u₁ u₂ E F nx, three maxOf (a .y) (b .y) (c .y) u₃ u₄ G H ny)
+  leveled nx ny =
+      rw (
+        three minOf (a .x) (b .x) (c .x) l₁ l₂ A B nx,
+        three minOf (a .y) (b .y) (c .y) l₃ l₄ C D ny,
+        three maxOf (a .x) (b .x) (c .x) u₁ u₂ E F nx,
+        three maxOf (a .y) (b .y) (c .y) u₃ u₄ G H ny,
+      )
 
-  pub boxed : (let s = add binary32 l₂ l₄ in ne s s ≡ false) → _≡_ {A = Bounds} (record { «min_x» = l₂; «min_y» = l₄; «max_x» = u₂; «max_y» = u₄ }) (aroundOf a b c)
+  pub compares : IsNum l₂ → IsNum l₄ → _≡_ {A = Aabb} (record { «min_x» = l₂; «min_y» = l₄; «max_x» = u₂; «max_y» = u₄ }) (aroundOf a b c)
+  compares p q = leveled (three-back minOf (a .x) (b .x) (c .x) l₁ l₂ A B p) (three-back minOf (a .y) (b .y) (c .y) l₃ l₄ C D q)
+
+  pub boxed : (let s = add binary32 l₂ l₄ in ne s s ≡ false) → _≡_ {A = Aabb} (record { «min_x» = l₂; «min_y» = l₄; «max_x» = u₂; «max_y» = u₄ }) (aroundOf a b c)
   boxed s =
       let n : IsNum (add binary32 l₂ l₄) = num-of-same (add binary32 l₂ l₄) s in
-      leveled (three-back minOf (a .x) (b .x) (c .x) l₁ l₂ A B (add-num-left binary32 l₂ l₄ n)) (three-back minOf (a .y) (b .y) (c .y) l₃ l₄ C D (add-num-right binary32 l₂ l₄ n))
+      compares (add-num-left binary32 l₂ l₄ n) (add-num-right binary32 l₂ l₄ n)
 
-pub merged : (a b : Bounds) (l m u v : Float) → Sound a
+-- a bound that was moved out is a number only where it was one before
+pub grown-back : (e g : Aabb) → g ≡ grownOf e → (IsNum (g .«min_x») → IsNum (e .«min_x»)) × (IsNum (g .«min_y») → IsNum (e .«min_y»))
+unfolding grownOf
+grown-back e g j = (
+  λ p. sub-num-left binary32 (e .«min_x») (slackOf e) (subst (λ (b : Aabb). IsNum (b .«min_x»)) j p),
+  λ p. sub-num-left binary32 (e .«min_y») (slackOf e) (subst (λ (b : Aabb). IsNum (b .«min_y»)) j p),
+)
+
+pub merged : (a b : Aabb) (l m u v : Float) → Sound a
     → Picked minOf (a .«min_x») (b .«min_x») l → Picked minOf (a .«min_y») (b .«min_y») m → Picked maxOf (a .«max_x») (b .«max_x») u → Picked maxOf (a .«max_y») (b .«max_y») v
-    → (_≡_ {A = Bounds} (record { «min_x» = l; «max_x» = u; «min_y» = m; «max_y» = v }) (mergeOf a b)) × Sound (record { «min_x» = l; «max_x» = u; «min_y» = m; «max_y» = v })
+    → (_≡_ {A = Aabb} (record { «min_x» = l; «max_x» = u; «min_y» = m; «max_y» = v }) (mergeOf a b)) × Sound (record { «min_x» = l; «max_x» = u; «min_y» = m; «max_y» = v })
 unfolding mergeOf
 merged a b l m u v s L M U W = (
   rw (L .is (s .least-x), M .is (s .least-y), U .is (s .most-x), W .is (s .most-y)),
@@ -101,7 +118,7 @@ merged a b l m u v s L M U W = (
 
 -- ---- a box that is there, or not
 
-boxIn : Bounds → Boxed → Bounds
+boxIn : Aabb → Boxed → Aabb
 boxIn d (Box b) = b
 boxIn d None = d
 
@@ -109,21 +126,23 @@ IsBox : Boxed → Type 0
 IsBox (Box b) = Unit {0}
 IsBox None = ⊥
 
-pub box-inj : (a b : Bounds) → Box a ≡ Box b → b ≡ a
+pub box-inj : (a b : Aabb) → Box a ≡ Box b → b ≡ a
 unfolding boxIn
 box-inj a b e = sym (ap (boxIn a) e)
 
-pub none-no-box : {P : Type 0} (b : Bounds) → None ≡ Box b → P
+pub none-no-box : {P : Type 0} (b : Aabb) → None ≡ Box b → P
 unfolding IsBox
 none-no-box b e = absurd (subst IsBox (sym e) tt)
 
 -- ---- the box of a triangle whose corners are there
 
-pub box-quick : (vs : List Float) (is : List ℕ) (t : ℕ) (a b c : Point) (e g : Bounds) → cornersOf vs is t ≡ Corners a b c → e ≡ aroundOf a b c → g ≡ grownOf e → boxOf vs is t ≡ Box g
+pub box-quick : (vs : List Float) (is : List ℕ) (t : ℕ) (a b c : Point) (e g : Aabb) → cornersOf vs is t ≡ Corners a b c → e ≡ aroundOf a b c → g ≡ grownOf e → boxOf vs is t ≡ Box g
 unfolding boxOf grownBox
-box-quick vs is t a b c e g h i j = ap grownBox h ∙ ap (λ (x : Bounds). Box (grownOf x)) (sym i) ∙ ap Box (sym j)
+box-quick vs is t a b c e g h i j = ap grownBox h ∙ ap (λ (x : Aabb). Box (grownOf x)) (sym i) ∙ ap Box (sym j)
 
-pub block-quick : (vs : List Float) (is : List ℕ) (f : Frame) (t : ℕ) (a b c : Point) (e g : Bounds) (r : Block) → cornersOf vs is t ≡ Corners a b c → e ≡ aroundOf a b c → g ≡ grownOf e → r ≡ blockOf f (Box g) → r ≡ blocksOf vs is f t
+pub block-quick :
+    (vs : List Float) (is : List ℕ) (f : Frame) (t : ℕ) (a b c : Point) (e g : Aabb) (r : Block) → cornersOf vs is t ≡ Corners a b c →
+    e ≡ aroundOf a b c → g ≡ grownOf e → r ≡ blockOf f (Box g) → r ≡ blocksOf vs is f t
 unfolding blocksOf
 block-quick vs is f t a b c e g r h i j k = k ∙ ap (blockOf f) (sym (box-quick vs is t a b c e g h i j))
 

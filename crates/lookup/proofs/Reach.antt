@@ -23,7 +23,7 @@ use Rattle.lookup.specs.Laws.Cells.{start-area}
 use Rattle.lookup.specs.Laws.Frames.{inside-of}
 use Rattle.lookup.specs.declared.mesh.Fetch.{Fetch}
 use Rattle.lookup.specs.declared.mesh.Fetch.the-variants.{Corners, Missing}
-use Rattle.lookup.specs.declared.boxes.Bounds.{Bounds}
+use Rattle.lookup.specs.declared.boxes.Aabb.{Aabb}
 use Rattle.lookup.specs.declared.boxes.Boxed.{Boxed}
 use Rattle.lookup.specs.declared.boxes.Boxed.the-variants.{Box, None}
 use Rattle.lookup.specs.declared.frame.Frame.{Frame}
@@ -163,7 +163,7 @@ another : (p q a b t s : ℕ) → s ≡ p + q → p ≤ (a + 1) * (b + 1) * t �
 another p q a b t s e h k = omega arith
 
 module _ (f : Frame) (width height : Float) (a b : ℕ) (x : Reaches (f .«min_x») (f .cell) (f .cols) (UpTo width) a) (y : Reaches (f .«min_y») (f .cell) (f .rows) (UpTo height) b) where
-  block-few : (g : Boxed) → HeldBox g → ((e : Bounds) → g ≡ Box e → Fits e width height)
+  block-few : (g : Boxed) → HeldBox g → ((e : Aabb) → g ≡ Box e → Fits e width height)
       → (blockOf f g .high + 1 - blockOf f g .low) * (blockOf f g .right + 1 - blockOf f g .left) ≤ (b + 1) * (a + 1)
   unfolding blockOf
   block-few (Box e) h k =

@@ -8,7 +8,6 @@ use native.Mathlib.Nat.{eq-or-lt-of-le, le-of-suc-le-suc}
 use native.Mathlib.Numerals.{add-one}
 use native.Mathlib.Decide.{decLt}
 use native.Mathlib.Omega.{arith}
-use lib.Dec.{T}
 use lib.ListN.{length, getD, set, take, drop, length-set, length-drop}
 use lib.Seq.{getD-set-same, getD-set-other, getD-take, getD-drop, length-take-le}
 use lib.Ieee.{Float, nan, lt}
@@ -27,9 +26,9 @@ use Rattle.lookup.specs.declared.mesh.Peak.{Peak}
 use Rattle.lookup.specs.Mesh.{present, cornersOf, triangles}
 use Rattle.lookup.specs.Cover.{slack, covers, weightsOf, weightsAt, detOf, overA, weightA, weightB, insideOf}
 use Rattle.lookup.specs.Plain.{scanOf, entryOf}
-use Rattle.lookup.specs.Consult.{entryFault, wordAt, Place, nowhere}
+use Rattle.lookup.specs.Consult.{entryFault, wordAt, Candidates, nowhere}
 use Rattle.lookup.specs.Steps.{Runs, Started}
-use Rattle.lookup.specs.Sixteen.{groundAt, Over, Grounded, Held, There, AllHeld, Exactly, Gathered, Low, AllLow, Weighed, Weighs, Poised, HitOf}
+use Rattle.lookup.specs.Sixteen.{groundAt, Over, Grounded, CornersUnder, There, AllUnder, Exactly, Gathered, Low, AllLow, Weighed, Weighs, PeakWeighed, HitOf}
 use Rattle.lookup.specs.Laws.Heads.{entry-none, entry-step}
 use Rattle.lookup.specs.Laws.Plain.{present-below}
 use Rattle.lookup.specs.Laws.Parts.{both}
@@ -92,11 +91,11 @@ unfolding weightsOf detOf overA weightA weightB
 ground-weights x y f g h = rw (f .same-x, f .same-y, g .same-x, g .same-y, h .same-x, h .same-y)
 
 module _ (vs : List Float) (is : List ℕ) where
-  held-out : {t : ℕ} {p q r : Point} (x y : Float) → Held vs is t p q r → insideOf (weightsOf p q r x y) ≡ false → covers vs is t x y ≡ false
+  held-out : {t : ℕ} {p q r : Point} (x y : Float) → CornersUnder vs is t p q r → insideOf (weightsOf p q r x y) ≡ false → covers vs is t x y ≡ false
   unfolding covers weightsAt
   held-out x y h o = rw (h .there, ← ground-weights x y (h .first) (h .second) (h .third), o)
 
-  fetched : (t : ℕ) {a b c p q r : Point} → Corners a b c ≡ cornersOf vs is t → Over p a → Over q b → Over r c → Held vs is t p q r
+  fetched : (t : ℕ) {a b c p q r : Point} → Corners a b c ≡ cornersOf vs is t → Over p a → Over q b → Over r c → CornersUnder vs is t p q r
   fetched t e f g h =
       let w = there vs is t e in
       record { there = w .0; first = subst (Over _) (w .1) f; second = subst (Over _) (w .2) g; third = subst (Over _) (w .3) h }
@@ -113,10 +112,10 @@ module _ (vs : List Float) (is : List ℕ) where
   gather-step run from k {a} {b} {c} {a′} {b′} {c′} {t = t} old same e f g h =
       record {
         held =
-            subst (λ (n : ℕ). AllHeld vs is run from n a′ b′ c′) (sym (add-one k))
-            (upto (λ j. There vs is run (from + j) → Held vs is (entryOf run (from + j)) (groundAt a′ j) (groundAt b′ j) (groundAt c′ j)) k
+            subst (λ (n : ℕ). AllUnder vs is run from n a′ b′ c′) (sym (add-one k))
+            (upto (λ j. There vs is run (from + j) → CornersUnder vs is (entryOf run (from + j)) (groundAt a′ j) (groundAt b′ j) (groundAt c′ j)) k
             (λ j l p. rw (f .kept j l, g .kept j l, h .kept j l) (old .held j l p))
-            (λ _. subst (λ (t : ℕ). Held vs is t (groundAt a′ k) (groundAt b′ k) (groundAt c′ k)) same (fetched _ e (f .put) (g .put) (h .put))));
+            (λ _. subst (λ (t : ℕ). CornersUnder vs is t (groundAt a′ k) (groundAt b′ k) (groundAt c′ k)) same (fetched _ e (f .put) (g .put) (h .put))));
         flag = exactly-more (λ j. There vs is run (from + j)) k (old .flag) (subst (λ (t : ℕ). present vs is t ≡ true) same (there vs is t e .0));
       }
 
@@ -126,8 +125,8 @@ module _ (vs : List Float) (is : List ℕ) where
       let none : There vs is run (from + k) → ⊥ = λ p. true-not-false (sym p ∙ subst (λ (t : ℕ). present vs is t ≡ false) same (missing vs is t e)) in
       record {
         held =
-            subst (λ (n : ℕ). AllHeld vs is run from n a b c) (sym (add-one k))
-            (upto (λ j. There vs is run (from + j) → Held vs is (entryOf run (from + j)) (groundAt a j) (groundAt b j) (groundAt c j)) k (old .held)
+            subst (λ (n : ℕ). AllUnder vs is run from n a b c) (sym (add-one k))
+            (upto (λ j. There vs is run (from + j) → CornersUnder vs is (entryOf run (from + j)) (groundAt a j) (groundAt b j) (groundAt c j)) k (old .held)
             (λ p. absurd (none p)));
         flag = exactly-not (λ j. There vs is run (from + j)) k none;
       }
@@ -160,14 +159,15 @@ weighed vs is x y run from n m a b c low whole le g lows =
 -- ---- the weights of the best
 
 module _ (vs : List Float) (is : List ℕ) (x y : Float) where
-  pub poised-none : {p : Peak} → p .best ≡ Nothing → Poised vs is x y p
-  poised-none e h t a = absurd (let z : _≡_ {A = ℕ} 0 1 = cc in omega arith)
+  pub weighed-none : {p : Peak} → p .best ≡ Nothing → PeakWeighed vs is x y p
+  weighed-none e h t a = absurd (let z : _≡_ {A = ℕ} 0 1 = cc in omega arith)
 
-  pub poised-next : {p r : Peak} {h : Float} {t : ℕ} {w : Weights} → Poised vs is x y p → Weighs vs is x y t w
-      → (r ≡ p) ⊎ ((r .best ≡ At h t) × (r .weights ≡ w)) → Poised vs is x y r
-  poised-next {p} {r} {h} {t} {w} old new =
-      ⊎-elim (λ (e : r ≡ p). subst (Poised vs is x y) (sym e) old)
-      (λ (e : (r .best ≡ At h t) × (r .weights ≡ w)) g u a. let z : t ≡ u = at-same (sym (e .0) ∙ a) in subst (λ (u : ℕ). Weighs vs is x y u (r .weights)) z (subst (Weighs vs is x y t) (sym (e .1)) new))
+  pub weighed-next : {p r : Peak} {h : Float} {t : ℕ} {w : Weights} → PeakWeighed vs is x y p → Weighs vs is x y t w
+      → (r ≡ p) ⊎ ((r .best ≡ At h t) × (r .weights ≡ w)) → PeakWeighed vs is x y r
+  weighed-next {p} {r} {h} {t} {w} old new =
+      ⊎-elim (λ (e : r ≡ p). subst (PeakWeighed vs is x y) (sym e) old) (λ (e : (r .best ≡ At h t) × (r .weights ≡ w)) g u a.
+      let z : t ≡ u = at-same (sym (e .0) ∙ a) in
+      subst (λ (u : ℕ). Weighs vs is x y u (r .weights)) z (subst (Weighs vs is x y t) (sym (e .1)) new))
     where
       at-same : {g k : Float} {i j : ℕ} → At g i ≡ At k j → i ≡ j
       at-same e = cc
@@ -208,7 +208,7 @@ run-sound vs is ws a e run same room all =
 
 -- ---- what is located
 
-module _ (ws : List ℕ) (count : ℕ) {answer : Answer Place} {d : Consulted} (s : Started ws count answer d) where
+module _ (ws : List ℕ) (count : ℕ) {answer : Answer Candidates} {d : Consulted} (s : Started ws count answer d) where
   pub refused-is : {r : Refusal} → d ≡ Refused r → refused (numberOf r) (placeOf r) ≡ answer
   unfolding Started
   refused-is e = subst (Started ws count answer) e s

@@ -5,7 +5,6 @@ use mathlib.Core.List.{List, [], _∷_, _++_}
 use lib.Dec.{ltb}
 use lib.ListN.{length, getD, replicate}
 use lib.Ieee.{Float, nan, binary32, toBits}
-use Rattle.vector.specs.declared.coords.Vector.{Vector}
 use Rattle.shape.specs.Gather.{gather}
 use Rattle.shape.specs.Lists.{Mesh, uneven}
 use Rattle.shape.specs.Refusal.{fine, refuse, Answer, taken, refused, judge, numberOf, placeOf}

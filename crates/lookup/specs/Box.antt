@@ -10,12 +10,12 @@ use Rattle.vector.specs.declared.coords.Point.{Point}
 use Rattle.lookup.specs.Mesh.{cornersOf}
 use Rattle.lookup.specs.declared.mesh.Fetch.{Fetch}
 use Rattle.lookup.specs.declared.mesh.Fetch.the-variants.{Corners, Missing}
-use Rattle.lookup.specs.declared.boxes.Bounds.{Bounds}
+use Rattle.lookup.specs.declared.boxes.Aabb.{Aabb}
 use Rattle.lookup.specs.declared.boxes.Boxed.{Boxed}
 use Rattle.lookup.specs.declared.boxes.Boxed.the-variants.{Box, None}
 
 -- from the least to the greatest x and y of three corners
-unfoldable pub aroundOf : Point → Point → Point → Bounds
+unfoldable pub aroundOf : Point → Point → Point → Aabb
 unfolding minOf maxOf
 aroundOf a b c =
     record {
@@ -26,11 +26,11 @@ aroundOf a b c =
     }
 
 -- 1e-4 (0x38d1b717) times (width + height)
-unfoldable pub slackOf : Bounds → Float
+unfoldable pub slackOf : Aabb → Float
 slackOf b = single 0x38d1_b717 ⊗ ((b .«max_x» ⊖ b .«min_x») ⊕ (b .«max_y» ⊖ b .«min_y»))
 
 -- each bound moved out by that
-unfoldable pub grownOf : Bounds → Bounds
+unfoldable pub grownOf : Aabb → Aabb
 unfolding slackOf
 grownOf b =
     record {
@@ -51,7 +51,7 @@ unfolding grownBox cornersOf
 boxOf vs is t = grownBox (cornersOf vs is t)
 
 -- a point lies in a box when each coordinate is between its bounds or on one
-unfoldable pub within : Bounds → Float → Float → Bool
+unfoldable pub within : Aabb → Float → Float → Bool
 within b x y = (le (b .«min_x») x && le x (b .«max_x»)) && (le (b .«min_y») y && le y (b .«max_y»))
 
 unfoldable pub inBoxed : Boxed → Float → Float → Bool
@@ -64,7 +64,7 @@ unfolding boxOf inBoxed
 inBox vs is t x y = inBoxed (boxOf vs is t) x y
 
 -- the box around two
-unfoldable pub mergeOf : Bounds → Bounds → Bounds
+unfoldable pub mergeOf : Aabb → Aabb → Aabb
 unfolding minOf maxOf
 mergeOf a b =
     record {

@@ -7,7 +7,7 @@ use lib.ListN.{length, getD, take, drop}
 use lib.Dec.{leb, ltb, eqb}
 use lib.Ieee.{Float, binary32, ofBits, le}
 use Rattle.lookup.specs.Column.{col}
-use Rattle.shape.specs.Refusal.{Fault, fine, refuse, orElse, Answer, taken, refused, judge}
+use Rattle.shape.specs.Refusal.{Fault, fine, refuse, orElse, Answer, taken, judge}
 
 -- word i, and the single that it stands for
 abbrev pub wordAt : List ℕ → ℕ → ℕ
@@ -71,23 +71,23 @@ startFault ws c =
 -- ---- the answer
 
 -- no cell holds the point, or its candidates stand from one place of the index up to another
-pub data Place : Type 0 where
-  nowhere : Place
-  run : ℕ → ℕ → Place
+pub data Candidates : Type 0 where
+  nowhere : Candidates
+  run : ℕ → ℕ → Candidates
 
 -- the candidates at a place
-unfoldable pub runIn : List ℕ → Place → List ℕ
+unfoldable pub runIn : List ℕ → Candidates → List ℕ
 runIn ws nowhere = []
 runIn ws (run a e) = take (e - a) (drop a ws)
 
-unfoldable pub runOf : List ℕ → ℕ → ℕ → Answer Place
+unfoldable pub runOf : List ℕ → ℕ → ℕ → Answer Candidates
 unfolding judge orElse
 runOf ws count c =
     let a = startAt ws c in
     let e = startAt ws (suc c) in
     judge (orElse (startFault ws c) (entryFault ws count (firstAt ws + a) (e - a))) (taken (run (firstAt ws + a) (firstAt ws + e)))
 
-unfoldable pub consultOf : List ℕ → ℕ → Float → Float → Answer Place
+unfoldable pub consultOf : List ℕ → ℕ → Float → Float → Answer Candidates
 unfolding judge
 consultOf ws count x y =
     judge (headFault ws count)

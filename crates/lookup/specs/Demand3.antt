@@ -18,7 +18,7 @@ use Rattle.lookup.specs.declared.sampler.Detail.{Detail}
 use Rattle.lookup.specs.Box.{inBox}
 use Rattle.lookup.specs.Plain.{Lookup, gives, none, answerOf}
 use Rattle.lookup.specs.Winner.{Uncovered, height, normal, Wins, NoNan, Right}
-use Rattle.lookup.specs.Index.{indexWords, buildOf}
+use Rattle.lookup.specs.Index.{indexWords, maxWords, buildOf}
 use Rattle.lookup.specs.Sampler.{Sample, hit, miss, detailOf, lookupIn, topOf}
 
 -- "an index built from a mesh is the words that a taken building call left": in memory that held `before`, the call left `size` words at the front, and ws is
@@ -64,7 +64,7 @@ pub record InBuilt (m : Mesh) (ws : List ℕ) (x y : Float) : Type 0 where
   -- the words are never foreign to the mesh
   pub never-foreign : (place : ℕ) → topOf m ws x y ≡ refused 4 place → ⊥
   -- nothing else turns a call back either, while the words are within their limit
-  pub indexed-taken : length ws ≤ 4194304 → (number place : ℕ) → topOf m ws x y ≡ refused number place → ⊥
+  pub indexed-taken : length ws ≤ maxWords → (number place : ℕ) → topOf m ws x y ≡ refused number place → ⊥
   -- where the winner's grown box holds the point it gives the winner, and both lookups the same. There is no winner where a covering height is a NaN
   pub winner : (k : ℕ) → Wins m x y k → inBox (m .vertices) (m .indices) k x y ≡ true → (s : Sample) → topOf m ws x y ≡ taken s
       → (s ≡ hit (height m x y k) (normal m x y k) k (detailOf m k)) × (answerOf m x y ≡ taken (lookupIn s))

@@ -9,7 +9,7 @@ use Rattle.rounding.specs.Root.{sqrtOf}
 use Rattle.rounding.specs.Whole.{wholeOf, ceilOf}
 use Rattle.vector.specs.Single.{_⊖_, _⊗_, _⊘_, single, 1f}
 use Rattle.lookup.specs.Box.{boxOf, mergeOf}
-use Rattle.lookup.specs.declared.boxes.Bounds.{Bounds}
+use Rattle.lookup.specs.declared.boxes.Aabb.{Aabb}
 use Rattle.lookup.specs.declared.boxes.Boxed.{Boxed}
 use Rattle.lookup.specs.declared.boxes.Boxed.the-variants.{Box, None}
 use Rattle.lookup.specs.declared.frame.Frame.{Frame}
@@ -70,7 +70,7 @@ unfoldable pub cellOf : Float → Float → ℕ → ℕ → Float
 unfolding maxOf
 cellOf w h cols rows = maxOf (maxOf (w ⊘ countOf cols) (h ⊘ countOf rows)) milli
 
-unfoldable pub frameOf : Bounds → ℕ → Frame
+unfoldable pub frameOf : Aabb → ℕ → Frame
 unfolding fineOf sideOf cellOf
 frameOf e count =
     let w = e .«max_x» ⊖ e .«min_x» in

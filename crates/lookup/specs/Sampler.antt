@@ -1,12 +1,13 @@
 -- Document 01, "Height under a wheel": what the indexed lookup answers. "The indexed one adds the lane, if any". Definitions only. Assumes nothing.
-use Prim.Native.Nat.{ℕ, zero, suc, _*_, _/_, _≤_, _<_}
+use Prim.Native.Nat.{ℕ, _*_, _/_, _≤_, _<_}
 use mathlib.Core.Bool.{_&&_, cond}
 use mathlib.Core.List.{List}
 use lib.ListN.{length}
 use lib.Dec.{ltb, leb}
 use lib.Ieee.{Float}
 use Rattle.vector.specs.declared.coords.Vector.{Vector}
-use Rattle.shape.specs.Lists.{Mesh, longer, wordOf, startOf, endOf, meshLimits, meshRagged}
+use Rattle.shape.specs.Gather.{least}
+use Rattle.shape.specs.Lists.{Mesh, spanWords, indicesWord, longer, wordOf, startOf, endOf, meshLimits, meshRagged}
 use Rattle.shape.specs.Refusal.{Fault, fine, refuse, orElse, Answer, taken, refused, judge, numberOf, placeOf}
 use Rattle.lookup.specs.declared.mesh.Best.{Best}
 use Rattle.lookup.specs.declared.mesh.Best.the-variants.{At, Nothing}
@@ -16,36 +17,36 @@ use Rattle.lookup.specs.declared.sampler.Detail.{Detail}
 use Rattle.lookup.specs.declared.sampler.Sampled.{Sampled}
 use Rattle.lookup.specs.declared.sampler.Sampled.the-variants as sampled
 use Rattle.lookup.specs.Mesh.{triangles}
+use Rattle.lookup.specs.Index.{maxWords}
 use Rattle.lookup.specs.Cover.{normalOf}
 use Rattle.lookup.specs.Plain.{scanOf, entryOf, Lookup, gives, none}
-use Rattle.lookup.specs.Consult.{Place, runIn, consultOf}
+use Rattle.lookup.specs.Consult.{Candidates, runIn, consultOf}
 
 -- ---- the refusals of the input, where the index is list 4
 
 -- "order: 1 for input, 2": all limits, the index's 4,194,304 words the last of them, and then what is ragged
 unfoldable pub topFault : Mesh → List ℕ → Fault
 unfolding orElse meshLimits meshRagged refuse longer
-topFault m ws = orElse (meshLimits m) (orElse (refuse (longer 1 4194304 ws) 1 4194304 fine) (meshRagged 0 m))
+topFault m ws = orElse (meshLimits m) (orElse (refuse (longer 1 maxWords ws) 1 maxWords fine) (meshRagged 0 m))
 
 -- ---- the lane of a triangle. A span's words are its lane's id, the run of its vertices and the run of its indices.
 
 -- the first of the first n spans whose run of indices ends past i, or n
 unfoldable pub pastOf : List ℕ → ℕ → ℕ → ℕ
-unfolding wordOf
-pastOf ss i zero = zero
-pastOf ss i (suc n) = cond (ltb (pastOf ss i n) n) (pastOf ss i n) (cond (ltb i (endOf 5 3 ss n)) n (suc n))
+unfolding wordOf least
+pastOf ss i n = least (λ k. ltb i (endOf spanWords indicesWord ss k)) n
 
 -- that span's lane, if its run holds the triangle's first index
 unfoldable pub laneOf : List ℕ → ℕ → Lane
 unfolding pastOf
 laneOf ss t =
-    let n = length ss / 5 in
+    let n = length ss / spanWords in
     let k = pastOf ss (3 * t) n in
-    cond (ltb k n && leb (startOf 5 3 ss k) (3 * t)) (Id (wordOf 5 ss k 0)) None
+    cond (ltb k n && leb (startOf spanWords indicesWord ss k) (3 * t)) (Id (wordOf spanWords ss k 0)) None
 
 -- of the first n spans, none ends before the one before it
 abbrev pub EndsRise : List ℕ → ℕ → Type 0
-EndsRise ss n = (j k : ℕ) → j ≤ k → k < n → endOf 5 3 ss j ≤ endOf 5 3 ss k
+EndsRise ss n = (j k : ℕ) → j ≤ k → k < n → endOf spanWords indicesWord ss j ≤ endOf spanWords indicesWord ss k
 
 -- ---- the answer
 
@@ -80,7 +81,7 @@ onward (refused number place) f = refused number place
 -- the answer to the call, for any words: the candidates are those of the cell consulted, the mesh's triangles give the count that word 0 must be
 unfoldable pub topOf : Mesh → List ℕ → Float → Float → Answer Sample
 unfolding judge onward topFault
-topOf m ws x y = judge (topFault m ws) (onward (consultOf ws (triangles (m .indices)) x y) (λ (p : Place). sampleIn m x y (runIn ws p)))
+topOf m ws x y = judge (topFault m ws) (onward (consultOf ws (triangles (m .indices)) x y) (λ (p : Candidates). sampleIn m x y (runIn ws p)))
 
 -- document 01's values of each case of the code's
 unfoldable pub readSampled : Sampled → Answer Sample

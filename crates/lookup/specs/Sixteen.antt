@@ -33,7 +33,7 @@ pub record Grounded (old new : List Float) (k : ℕ) (p : Point) : Type 0 where
   pub kept : (j : ℕ) → j < k → groundAt new j ≡ groundAt old j
 
 -- triangle t is there, and place k of each row is under a corner of it
-pub record Held (vs : List Float) (is : List ℕ) (t : ℕ) (p q r : Point) : Type 0 where
+pub record CornersUnder (vs : List Float) (is : List ℕ) (t : ℕ) (p q r : Point) : Type 0 where
   pub there : present vs is t ≡ true
   pub first : Over p (cornerOf vs is t 0)
   pub second : Over q (cornerOf vs is t 1)
@@ -44,8 +44,8 @@ abbrev pub There : List Float → List ℕ → List ℕ → ℕ → Type 0
 There vs is run i = present vs is (entryOf run i) ≡ true
 
 -- of n triangles of a run from a place on, each that is there is held; the place of one that is missing holds anything
-abbrev pub AllHeld : List Float → List ℕ → List ℕ → ℕ → ℕ → List Float → List Float → List Float → Type 0
-AllHeld vs is run from n a b c = (k : ℕ) → k < n → There vs is run (from + k) → Held vs is (entryOf run (from + k)) (groundAt a k) (groundAt b k) (groundAt c k)
+abbrev pub AllUnder : List Float → List ℕ → List ℕ → ℕ → ℕ → List Float → List Float → List Float → Type 0
+AllUnder vs is run from n a b c = (k : ℕ) → k < n → There vs is run (from + k) → CornersUnder vs is (entryOf run (from + k)) (groundAt a k) (groundAt b k) (groundAt c k)
 
 -- b is true exactly where each of the first n has it
 pub record Exactly (P : ℕ → Type 0) (n : ℕ) (b : Bool) : Type 0 where
@@ -57,7 +57,7 @@ abbrev pub Whole : List Float → List ℕ → List ℕ → ℕ → ℕ → Bool
 Whole vs is run from n whole = Exactly (λ k. There vs is run (from + k)) n whole
 
 pub record Gathered (vs : List Float) (is run : List ℕ) (from n : ℕ) (a b c : List Float) (whole : Bool) : Type 0 where
-  pub held : AllHeld vs is run from n a b c
+  pub held : AllUnder vs is run from n a b c
   pub flag : Whole vs is run from n whole
 
 -- ---- least weights
@@ -84,8 +84,8 @@ pub record Weighs (vs : List Float) (is : List ℕ) (x y : Float) (t : ℕ) (w :
   pub same : w ≡ weightsAt vs is t x y
 
 -- the weights are those of the best, if there is one
-abbrev pub Poised : List Float → List ℕ → Float → Float → Peak → Type 0
-Poised vs is x y p = (h : Float) (t : ℕ) → p .best ≡ At h t → Weighs vs is x y t (p .weights)
+abbrev pub PeakWeighed : List Float → List ℕ → Float → Float → Peak → Type 0
+PeakWeighed vs is x y p = (h : Float) (t : ℕ) → p .best ≡ At h t → Weighs vs is x y t (p .weights)
 
 -- the best of the first n triangles of a run, and whether each of them is there
 pub record HitOf (vs : List Float) (is : List ℕ) (x y : Float) (run : List ℕ) (n : ℕ) (best : Best) (whole : Bool) : Type 0 where

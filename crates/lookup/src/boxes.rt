@@ -9,7 +9,7 @@ use vector::coords::Point;
 
 // A box on the ground. The bounds stand in this order so that the compiler works the lower ones out in one
 // instruction, and the upper ones.
-pub struct Bounds {
+pub struct Aabb {
     pub min_x: f32,
     pub min_y: f32,
     pub max_x: f32,
@@ -18,15 +18,15 @@ pub struct Bounds {
 
 // The box of a triangle or of a row of them, or that there is none.
 pub enum Boxed {
-    Box(Bounds),
+    Box(Aabb),
     None,
 }
 
 // The box around three corners, NaN or not.
-pub(crate) fn around_any(a: Point, b: Point, c: Point) -> Bounds
+pub(crate) fn around_any(a: Point, b: Point, c: Point) -> Aabb
     ensures { λ r. ⌜ r ≡ aroundOf a b c ⌝ }
 {
-    Bounds {
+    Aabb {
         min_x: min32(min32(a.x, b.x), c.x),
         max_x: max32(max32(a.x, b.x), c.x),
         min_y: min32(min32(a.y, b.y), c.y),
@@ -34,13 +34,17 @@ pub(crate) fn around_any(a: Point, b: Point, c: Point) -> Bounds
     }
 }
 
-// A box with each bound moved out by 1e-4 times width plus height: a point that the weights' slack
+// How far outside a triangle, as a share of its corners' weights, a point still counts as on it, so that a
+// point on an edge of two triangles is found by one of them in spite of rounding.
+pub(crate) const EDGE_SLACK: f32 = 1e-4;
+
+// A box with each bound moved out by the slack times width plus height: a point that the weights' slack
 // lets a triangle cover lies past its corners.
-pub(crate) fn grown(b: Bounds) -> Bounds
+pub(crate) fn grown(b: Aabb) -> Aabb
     ensures { λ r. ⌜ r ≡ grownOf b ⌝ }
 {
-    let slack = 1e-4 * ((b.max_x - b.min_x) + (b.max_y - b.min_y));
-    Bounds {
+    let slack = EDGE_SLACK * ((b.max_x - b.min_x) + (b.max_y - b.min_y));
+    Aabb {
         min_x: b.min_x - slack,
         max_x: b.max_x + slack,
         min_y: b.min_y - slack,
@@ -49,10 +53,10 @@ pub(crate) fn grown(b: Bounds) -> Bounds
 }
 
 // The box around two.
-fn merge(a: Bounds, b: Bounds) -> Bounds
+fn merge(a: Aabb, b: Aabb) -> Aabb
     ensures { λ r. ⌜ r ≡ mergeOf a b ⌝ }
 {
-    Bounds {
+    Aabb {
         min_x: min32(a.min_x, b.min_x),
         max_x: max32(a.max_x, b.max_x),
         min_y: min32(a.min_y, b.min_y),
@@ -61,7 +65,7 @@ fn merge(a: Bounds, b: Bounds) -> Bounds
 }
 
 // The box around another and what there is so far.
-pub(crate) fn join(e: Boxed, g: Bounds) -> Boxed
+pub(crate) fn join(e: Boxed, g: Aabb) -> Boxed
     ensures { λ r. ⌜ r ≡ joinOf e (Box g) ⌝ }
 {
     let Boxed::Box(x) = e else {

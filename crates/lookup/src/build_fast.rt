@@ -1,7 +1,10 @@
 // What is there for the speed of building alone. Each function's contract is that of the plain form. The compiler
 // works the bounds of a box out two at a time and its columns four at a time, where the code lets it; each pass
 // keeps the cells of 64 triangles before it uses them; and a bound on the entries saves the pass that counts them.
-// With all this, building takes 0.46 to 0.53 of the Rust's time.
+// The loops over triangles do only what all but a few need, with one test for the rest, a missing corner or a NaN;
+// where there is such a one, a slower loop goes over the same triangles again. The slow way within these loops took
+// a tenth more, since the compiler then joins both ways and moves the bounds about. With all this, and with the rows
+// of `grid` that are counted and filled without a branch, building takes 0.46 to 0.47 of the Rust's time.
 ghost use mathlib.Core.Path.{_≡_};
 ghost use mathlib.Core.Bool.{true, cond};
 ghost use mathlib.Core.List.{List};
@@ -11,24 +14,26 @@ ghost use lib.Dec.{T};
 ghost use lib.Ieee.{Float, binary32, fits, lt, le, sub, toUnsigned};
 ghost use Rattle.lookup.specs.Column.{col};
 ghost use Rattle.rounding.specs.Extremes.{minOf, maxOf};
+ghost use Rattle.rounding.specs.Laws.Order.{IsNum};
 ghost use Rattle.lookup.specs.Laws.Column.{Width};
 ghost use Rattle.lookup.specs.Mesh.{triangles};
-ghost use Rattle.lookup.specs.Box.{aroundOf, mergeOf, boxOf};
+ghost use Rattle.lookup.specs.Box.{aroundOf, boxOf};
 ghost use Rattle.lookup.specs.declared.boxes.Boxed.the-variants.{Box};
 ghost use Rattle.lookup.specs.Index.{blockOf, blocksOf, inCell, cellsOf, start};
 ghost use Rattle.lookup.specs.Steps.{Tallied, Framed, Picked, Sound, Narrow, Short, keptOf, keptIn, from, Kept};
-use crate::boxes::Bounds;
+use crate::boxes::Aabb;
 use crate::boxes::Boxed;
 use crate::boxes::around_any;
 use crate::boxes::grown;
 use crate::boxes::join;
 use crate::frame::Block;
 use crate::frame::Frame;
-use crate::frame::column;
+use crate::frame::col;
 use crate::frame::single;
 use crate::mesh::Fetch;
 use crate::mesh::corners;
 use rounding::bits::wide;
+use shape::lists::both;
 use vector::coords::Point;
 
 // ---- boxes
@@ -51,8 +56,8 @@ fn upper(x: f32, y: f32) -> f32
 // The box around three corners by plain comparisons, or none: a NaN in the first corner makes the sum of the
 // lower bounds a NaN. The test stands where it does so that the compiler pairs the lower bounds with each other,
 // and the upper ones, in one instruction each.
-fn quick(a: Point, b: Point, c: Point) -> Boxed
-    ensures { λ r. ⌜ ((e : Bounds) → r ≡ Box e → e ≡ aroundOf a b c) ⌝ }
+fn around_plain(a: Point, b: Point, c: Point) -> Boxed
+    ensures { λ r. ⌜ ((e : Aabb) → r ≡ Box e → e ≡ aroundOf a b c) ⌝ }
 {
     let min_x = lower(lower(a.x, b.x), c.x);
     let min_y = lower(lower(a.y, b.y), c.y);
@@ -62,7 +67,7 @@ fn quick(a: Point, b: Point, c: Point) -> Boxed
     }
     let max_x = upper(upper(a.x, b.x), c.x);
     let max_y = upper(upper(a.y, b.y), c.y);
-    Boxed::Box(Bounds {
+    Boxed::Box(Aabb {
         min_x: min_x,
         max_x: max_x,
         min_y: min_y,
@@ -71,37 +76,29 @@ fn quick(a: Point, b: Point, c: Point) -> Boxed
 }
 
 // The box around three corners: by plain comparisons where its first corner has no NaN.
-fn around(a: Point, b: Point, c: Point) -> Bounds
+fn around(a: Point, b: Point, c: Point) -> Aabb
     ensures { λ r. ⌜ r ≡ aroundOf a b c ⌝ }
 {
-    let Boxed::Box(e) = quick(a, b, c) else {
+    let Boxed::Box(e) = around_plain(a, b, c) else {
         return around_any(a, b, c);
     };
     e
 }
 
-// The box around two, as `merge` has it, where the bounds of the first are numbers. The test never holds; as in
-// `quick` it parts the lower bounds from the upper ones.
-fn widened(a: Bounds, b: Bounds) -> Bounds
-    requires { ⌜ Sound a ⌝ }
-    ensures { λ r. ⌜ r ≡ mergeOf a b ⌝ }
-    ensures { λ r. ⌜ Sound r ⌝ }
+// The box around three corners by plain comparisons, right where its lower bounds are numbers; the caller tests.
+fn compared(a: Point, b: Point, c: Point) -> Aabb
+    ensures { λ r. ⌜ (IsNum (r .«min_x») → IsNum (r .«min_y») → r ≡ aroundOf a b c) ⌝ }
 {
-    let min_x = lower(a.min_x, b.min_x);
-    let min_y = lower(a.min_y, b.min_y);
-    if min_x != min_x {
-        return a;
-    }
-    Bounds {
-        min_x: min_x,
-        max_x: upper(a.max_x, b.max_x),
-        min_y: min_y,
-        max_y: upper(a.max_y, b.max_y),
+    Aabb {
+        min_x: lower(lower(a.x, b.x), c.x),
+        max_x: upper(upper(a.x, b.x), c.x),
+        min_y: lower(lower(a.y, b.y), c.y),
+        max_y: upper(upper(a.y, b.y), c.y),
     }
 }
 
 // Are all bounds numbers?
-fn sound(b: Bounds) -> bool
+fn sound(b: Aabb) -> bool
     ensures { λ r. ⌜ (r ≡ true → Sound b) ⌝ }
 {
     if b.min_x != b.min_x {
@@ -128,7 +125,8 @@ pub(crate) struct Tally {
     pub height: f32,
 }
 
-// How many triangles have a box, and the box around these, whatever they are.
+// How many triangles have a box, and the box around these, whatever they are. The boxes are narrow unless the sides
+// of one are NaN.
 fn tally_any(vertices: &[f32], indices: &[u32]) -> Tally
     requires { ⌜ length (now indices) ≤ 196608 ⌝ }
     ensures { λ r. ⌜ Tallied (now (vertices .entry)) (now (indices .entry)) (triangles (now (indices .entry))) (r .count) (r .extent) ⌝ }
@@ -136,28 +134,43 @@ fn tally_any(vertices: &[f32], indices: &[u32]) -> Tally
 {
     let mut count: u32 = 0;
     let mut extent = Boxed::None;
+    let mut narrow = true;
+    let mut width: f32 = 0.0;
+    let mut height: f32 = 0.0;
     for t in 0..indices.len() / 3 {
         let Fetch::Corners(a, b, c) = corners(vertices, indices, t) else {
             continue;
         };
         count += 1;
-        extent = join(extent, grown(around(a, b, c)));
+        let g = grown(around(a, b, c));
+        extent = join(extent, g);
+        let wide = g.max_x - g.min_x;
+        let high = g.max_y - g.min_y;
+        let both = wide + high;
+        if both != both {
+            narrow = false; // a side is a NaN
+            continue;
+        }
+        width = upper(width, wide);
+        height = upper(height, high);
     }
     Tally {
         count: count,
         extent: extent,
-        narrow: false,
-        width: 0.0,
-        height: 0.0,
+        narrow: narrow,
+        width: width,
+        height: height,
     }
 }
 
-// The same, where triangle 0 has the box `first` and its bounds are numbers, so that no bound of the extent is
-// a NaN. It also measures the boxes, which are narrow unless the sides of one are NaN.
-fn tally_on(vertices: &[f32], indices: &[u32], first: Bounds) -> Tally
+// The same, where triangle 0 has the box `first` and its bounds are numbers, unless the sides of a box are NaN: then
+// `narrow` is false and the rest is void. It also measures the boxes. The extent's lower bounds are worked out before
+// the test and kept on both its ways, and the upper ones after it, so that the compiler works each two out in one
+// instruction: with all four after it, building took a tenth more.
+fn tally_on(vertices: &[f32], indices: &[u32], first: Aabb) -> Tally
     requires { ⌜ (length (now indices) ≤ 196608) × (0 < triangles (now indices)) ⌝ }
     requires { ⌜ Sound first × (boxOf (now vertices) (now indices) 0 ≡ Box first) ⌝ }
-    ensures { λ r. ⌜ Tallied (now (vertices .entry)) (now (indices .entry)) (triangles (now (indices .entry))) (r .count) (r .extent) ⌝ }
+    ensures { λ r. ⌜ (r .narrow ≡ true → Tallied (now (vertices .entry)) (now (indices .entry)) (triangles (now (indices .entry))) (r .count) (r .extent)) ⌝ }
     ensures { λ r. ⌜ (r .narrow ≡ true → Narrow (now (vertices .entry)) (now (indices .entry)) (triangles (now (indices .entry))) (r .width) (r .height)) ⌝ }
 {
     let mut count: u32 = 0;
@@ -170,15 +183,30 @@ fn tally_on(vertices: &[f32], indices: &[u32], first: Bounds) -> Tally
             continue;
         };
         count += 1;
-        let g = grown(around(a, b, c));
-        extent = widened(extent, g);
+        let g = grown(compared(a, b, c));
         let w = g.max_x - g.min_x;
         let h = g.max_y - g.min_y;
+        let min_x = lower(extent.min_x, g.min_x);
+        let min_y = lower(extent.min_y, g.min_y);
         let both = w + h;
         if both != both {
-            narrow = false;
+            narrow = false; // and the rest is void
+            extent = Aabb {
+                min_x: min_x,
+                max_x: first.max_x,
+                min_y: min_y,
+                max_y: first.max_y,
+            };
             continue;
         }
+        let max_x = upper(extent.max_x, g.max_x);
+        let max_y = upper(extent.max_y, g.max_y);
+        extent = Aabb {
+            min_x: min_x,
+            max_x: max_x,
+            min_y: min_y,
+            max_y: max_y,
+        };
         width = upper(width, w);
         height = upper(height, h);
     }
@@ -191,6 +219,16 @@ fn tally_on(vertices: &[f32], indices: &[u32], first: Bounds) -> Tally
     }
 }
 
+// Is no number a NaN? It only chooses the way of tallying, and nothing rests on it: without it a mesh that has a NaN
+// would be tallied twice, and building take a seventh longer.
+fn no_nan(vertices: &[f32]) -> bool {
+    let mut whole = true;
+    for i in 0..vertices.len() {
+        whole = both(whole, vertices[i] == vertices[i]);
+    }
+    whole
+}
+
 // How many triangles have a box, and the box around these.
 pub(crate) fn tally_of(vertices: &[f32], indices: &[u32]) -> Tally
     requires { ⌜ length (now indices) ≤ 196608 ⌝ }
@@ -201,8 +239,15 @@ pub(crate) fn tally_of(vertices: &[f32], indices: &[u32]) -> Tally
         return tally_any(vertices, indices);
     };
     let first = grown(around(a, b, c));
-    if sound(first) {
-        return tally_on(vertices, indices, first);
+    if !sound(first) {
+        return tally_any(vertices, indices);
+    }
+    if !no_nan(vertices) {
+        return tally_any(vertices, indices);
+    }
+    let tally = tally_on(vertices, indices, first);
+    if tally.narrow {
+        return tally;
     }
     tally_any(vertices, indices)
 }
@@ -220,7 +265,7 @@ fn below(x: f32, y: f32) -> u32
 // For one point, whose candidates wait for it, it takes longer than `cut`: a lookup with it took about 6 ns more.
 // `c` is q brought between 0 and the last column. From 2^23 on a single is whole, so the sum rounds c to a whole
 // number, which its bits count on from those of 2^23; where that lies past c it is one too many.
-fn cut_level(q: f32, count: usize) -> usize
+fn cut_straight(q: f32, count: usize) -> usize
     requires { ⌜ (0 < count) × (count ≤ 1024) ⌝ }
     ensures { λ r. ⌜ r ≡ min (toUnsigned 64 q) (count - 1) ⌝ }
 {
@@ -230,24 +275,24 @@ fn cut_level(q: f32, count: usize) -> usize
     wide(near - below(c, sum - 8388608.0))
 }
 
-// The column of x, as `column` has it, without a branch.
-fn column_level(m: f32, cell: f32, count: usize, x: f32) -> usize
+// The column of x, as `col` has it, without a branch.
+fn col_straight(m: f32, cell: f32, count: usize, x: f32) -> usize
     requires { ⌜ (0 < count) × (count ≤ 1024) ⌝ }
     ensures { λ r. ⌜ r ≡ col binary32 m cell count x ⌝ }
 {
-    cut_level((x - m) / cell, count)
+    cut_straight((x - m) / cell, count)
 }
 
 // The cells of a box.
-fn block_in(f: Frame, b: Bounds) -> Block
+fn block_in(f: Frame, b: Aabb) -> Block
     requires { ⌜ Framed f ⌝ }
     ensures { λ r. ⌜ r ≡ blockOf f (Box b) ⌝ }
 {
     Block {
-        left: column_level(f.min_x, f.cell, f.cols, b.min_x),
-        right: column_level(f.min_x, f.cell, f.cols, b.max_x),
-        low: column_level(f.min_y, f.cell, f.rows, b.min_y),
-        high: column_level(f.min_y, f.cell, f.rows, b.max_y),
+        left: col_straight(f.min_x, f.cell, f.cols, b.min_x),
+        right: col_straight(f.min_x, f.cell, f.cols, b.max_x),
+        low: col_straight(f.min_y, f.cell, f.rows, b.min_y),
+        high: col_straight(f.min_y, f.cell, f.rows, b.max_y),
     }
 }
 
@@ -288,10 +333,10 @@ fn keep(b: Block, k: usize, blocks: &mut [u16])
     blocks[at + 3] = b.high as u16;
 }
 
-// Keeps the blocks of m triangles from t on, and says whether all have their corners; one that has none is
-// passed over. Nothing else is kept in this loop: with a second store, as in `survey_any`, the compiler would no
-// longer work the four columns of a box out at once.
-fn survey_all(
+// Keeps the blocks of m triangles from t on, and says whether all have their corners, and no NaN in the first; one
+// that has not is passed over. Nothing else is kept in this loop: with a second store, as in `keep_any`, the
+// compiler would no longer work the four columns of a box out at once.
+fn keep_whole(
     vertices: &[f32],
     indices: &[u32],
     f: Frame,
@@ -307,17 +352,21 @@ fn survey_all(
     for k in 0..m {
         let i = t + k;
         let Fetch::Corners(a, b, c) = corners(vertices, indices, i) else {
-            whole = false;
+            whole = false; // a corner is missing
             continue;
         };
-        let block = block_in(f, grown(around(a, b, c)));
+        let Boxed::Box(e) = around_plain(a, b, c) else {
+            whole = false; // it is a NaN
+            continue;
+        };
+        let block = block_in(f, grown(e));
         keep(block, k, blocks);
     }
     whole
 }
 
-// The same, where some may have no corners: such a one keeps a block that starts past its end.
-fn survey_any(vertices: &[f32], indices: &[u32], f: Frame, t: usize, m: usize, blocks: &mut [u16])
+// The same, whatever the corners: one that has none keeps a block that starts past its end.
+fn keep_any(vertices: &[f32], indices: &[u32], f: Frame, t: usize, m: usize, blocks: &mut [u16])
     requires { ⌜ Framed f ⌝ }
     requires { ⌜ (t + m ≤ triangles (now indices)) × (4 * m ≤ length (now blocks)) ⌝ }
     ensures { λ _. ⌜ Kept (from t (blocksOf (now (vertices .entry)) (now (indices .entry)) f)) m (now (blocks .exit)) ⌝ }
@@ -338,7 +387,7 @@ fn survey_any(vertices: &[f32], indices: &[u32], f: Frame, t: usize, m: usize, b
 }
 
 // Keeps the blocks of m triangles from t on.
-pub(crate) fn survey(
+pub(crate) fn keep_blocks(
     vertices: &[f32],
     indices: &[u32],
     f: Frame,
@@ -350,10 +399,10 @@ pub(crate) fn survey(
     requires { ⌜ (t + m ≤ triangles (now indices)) × (4 * m ≤ length (now blocks)) ⌝ }
     ensures { λ _. ⌜ Kept (from t (blocksOf (now (vertices .entry)) (now (indices .entry)) f)) m (now (blocks .exit)) ⌝ }
 {
-    if survey_all(vertices, indices, f, t, m, blocks) {
+    if keep_whole(vertices, indices, f, t, m, blocks) {
         return;
     }
-    survey_any(vertices, indices, f, t, m, blocks);
+    keep_any(vertices, indices, f, t, m, blocks);
 }
 
 // How many of the triangles that are left have their blocks kept at once.
@@ -361,6 +410,21 @@ pub(crate) fn some_of(left: usize) -> usize
     ensures { λ r. ⌜ r ≡ min left 64 ⌝ }
 {
     if left < 64 { left } else { 64 }
+}
+
+// Keeps the blocks of the first n triangles, 64 at a time, so that a triangle for the slow way takes only its own 64
+// there.
+pub(crate) fn keep_first(vertices: &[f32], indices: &[u32], f: Frame, n: usize, blocks: &mut [u16])
+    requires { ⌜ Framed f ⌝ }
+    requires { ⌜ (n ≤ triangles (now indices)) × (4 * n ≤ length (now blocks)) × (length (now indices) ≤ 196608) ⌝ }
+    ensures { λ _. ⌜ Kept (from 0 (blocksOf (now (vertices .entry)) (now (indices .entry)) f)) n (now (blocks .exit)) ⌝ }
+{
+    let mut t = 0;
+    while t < n {
+        let m = some_of(n - t);
+        keep_blocks(vertices, indices, f, t, m, &mut blocks[4 * t..]);
+        t += m;
+    }
 }
 
 // ---- how many entries there may be
@@ -373,16 +437,16 @@ fn reach(m: f32, cell: f32, count: usize, w: f32) -> usize
     ensures { λ r. ⌜ ((lo hi : Float) → T (fits binary32 hi) → T (lt (sub binary32 hi lo) w) → col binary32 m cell count hi ≤ r + col binary32 m cell count lo) × (r < count) ⌝ }
 {
     let step = 0.5 * cell;
-    let mut most = column(m, cell, count, m + w);
+    let mut most = col(m, cell, count, m + w);
     let mut x = m;
     let mut j: usize = 0;
     while j < 4096 {
-        let here = column(m, cell, count, x);
+        let here = col(m, cell, count, x);
         if count - 1 <= here {
             return most;
         }
         let next = x + step;
-        let there = column(m, cell, count, next + w);
+        let there = col(m, cell, count, next + w);
         if most + here < there {
             most = there - here;
         }

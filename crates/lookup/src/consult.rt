@@ -6,13 +6,16 @@ ghost use Prim.Native.Nat.{ℕ, _-_, _<_, _≤_, _^_};
 ghost use lib.ListN.{getD, take, drop};
 ghost use Rattle.shape.specs.Refusal.{fine, found};
 ghost use Rattle.lookup.specs.Consult.{floatAt, headFault, entryFault, runOf, consultOf};
-ghost use Rattle.lookup.specs.Steps.{Opens, Started, Sided, frontOf, spotOf};
-use crate::frame::column;
+ghost use Rattle.lookup.specs.Steps.{Opens, Started, Sided, frontOf, cellOrOutside};
+use crate::frame::col;
 use rounding::bits::from_bits32;
 use shape::lists::least;
 use shape::lists::word_at;
 use shape::refusal::Check;
 use shape::refusal::Refusal;
+
+// The most words of an index.
+pub const MAX_WORDS: usize = 4194304;
 
 // Where a point's candidates stand in the index: from a place up to another; or nowhere; or why the
 // call was turned back.
@@ -23,7 +26,7 @@ pub enum Consulted {
 }
 
 // The cell that holds a point, if the grid does.
-enum Spot {
+enum PointCell {
     Cell(usize),
     Outside,
 }
@@ -130,21 +133,21 @@ pub(crate) fn open(index: &[u32], count: usize) -> Opened
 // ---- the cell of a point
 
 // The cell that holds (x, y). A NaN is nowhere.
-fn spot_in(h: Front, x: f32, y: f32) -> Spot
+fn cell_in(h: Front, x: f32, y: f32) -> PointCell
     requires { ⌜ (0 < h .cols) × (h .cols ≤ 1024) × (0 < h .rows) × (h .rows ≤ 1024) ⌝ }
-    ensures { λ r. ⌜ ((ws : List ℕ) → h ≡ frontOf ws → r ≡ spotOf ws x y) ⌝ }
+    ensures { λ r. ⌜ ((ws : List ℕ) → h ≡ frontOf ws → r ≡ cellOrOutside ws x y) ⌝ }
 {
     if h.min_x <= x {
         if x <= h.max_x {
             if h.min_y <= y {
                 if y <= h.max_y {
-                    let row = column(h.min_y, h.cell, h.rows, y);
-                    return Spot::Cell(row * h.cols + column(h.min_x, h.cell, h.cols, x));
+                    let row = col(h.min_y, h.cell, h.rows, y);
+                    return PointCell::Cell(row * h.cols + col(h.min_x, h.cell, h.cols, x));
                 }
             }
         }
     }
-    Spot::Outside
+    PointCell::Outside
 }
 
 // The run of cell c. Its entries are not looked at.
@@ -173,7 +176,7 @@ pub(crate) fn locate(index: &[u32], h: Front, x: f32, y: f32) -> Consulted
     requires { ⌜ Sided (now index) × (h ≡ frontOf (now index)) ⌝ }
     ensures { λ r. ⌜ ((count : ℕ) → headFault (now (index .entry)) count ≡ fine → Started (now (index .entry)) count (consultOf (now (index .entry)) count x y) r) ⌝ }
 {
-    let Spot::Cell(c) = spot_in(h, x, y) else {
+    let PointCell::Cell(c) = cell_in(h, x, y) else {
         return Consulted::Nowhere;
     };
     run_in(index, h, c)

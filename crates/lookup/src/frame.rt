@@ -2,9 +2,9 @@
 ghost use mathlib.Core.Path.{_≡_};
 ghost use Prim.Native.Nat.{_+_, _-_, _*_, _<_, _≤_, min};
 ghost use lib.Ieee.{binary32, toUnsigned};
-ghost use Rattle.lookup.specs.Column.{col};
+ghost use Rattle.lookup.specs.Column.{bucket, col};
 ghost use Rattle.lookup.specs.Frame.{countOf, fineOf, sideOf, frameOf};
-use crate::boxes::Bounds;
+use crate::boxes::Aabb;
 use rounding::bits::wide;
 use rounding::count::count32;
 use rounding::extremes::max32;
@@ -24,12 +24,18 @@ pub struct Frame {
     pub rows: usize,
 }
 
+// The most cells on a side, so that one enormous triangle makes no enormous grid.
+const MAX_DIM: usize = 1024;
+
+// How many boxes to a cell the grid aims for.
+const ITEMS_PER_CELL: f32 = 2.0;
+
 // The side of a cell, for two boxes to a cell of an extent w by h: floored, so that a straight road
 // still gives one, and with no more than 1,024 cells on the longer side.
 fn fine(w: f32, h: f32, count: u32) -> f32
     ensures { λ r. ⌜ r ≡ fineOf w h count ⌝ }
 {
-    let target = max32(std::num::nearest_u32_to_f32(count) / 2.0, 1.0);
+    let target = max32(std::num::nearest_u32_to_f32(count) / ITEMS_PER_CELL, 1.0);
     let area = max32(w, 1e-3) * max32(h, 1e-3);
     max32(max32(sqrt32(area / target), max32(w, h) / 1024.0), 1e-3)
 }
@@ -38,14 +44,14 @@ fn fine(w: f32, h: f32, count: u32) -> f32
 fn side(w: f32, cell: f32) -> usize
     ensures { λ r. ⌜ r ≡ sideOf w cell ⌝ }
 {
-    let n = count32(ceil32(w / cell));
+    let n = count32(ceil32(w / cell)) as usize;
     if n < 1 {
         return 1;
     }
-    if 1024 < n {
-        return 1024;
+    if MAX_DIM < n {
+        return MAX_DIM;
     }
-    n as usize
+    n
 }
 
 // A count of cells as a float.
@@ -58,7 +64,7 @@ pub(crate) fn single(n: usize) -> f32
 
 // The frame of the grid over an extent: the cell's side is worked out anew from the counts, so that the
 // grid spans the whole extent.
-pub(crate) fn frame_of(e: Bounds, count: u32) -> Frame
+pub(crate) fn frame_of(e: Aabb, count: u32) -> Frame
     ensures { λ r. ⌜ r ≡ frameOf e count ⌝ }
 {
     let w = e.max_x - e.min_x;
@@ -100,13 +106,21 @@ fn cut(q: f32, count: usize) -> usize
     0
 }
 
-// The column of x, in a grid that starts at m. A NaN and what lies before the first column go to it,
-// and what lies past the last to the last.
-pub(crate) fn column(m: f32, cell: f32, count: usize, x: f32) -> usize
+// The column of what lies `offset` past the grid's edge. A NaN and what lies before the first column go to
+// it, and what lies past the last to the last.
+fn bucket(offset: f32, cell: f32, count: usize) -> usize
+    requires { ⌜ (0 < count) × (count ≤ 1024) ⌝ }
+    ensures { λ r. ⌜ r ≡ bucket binary32 offset cell count ⌝ }
+{
+    cut(offset / cell, count)
+}
+
+// The column of x, in a grid that starts at m; the row of a y likewise.
+pub(crate) fn col(m: f32, cell: f32, count: usize, x: f32) -> usize
     requires { ⌜ (0 < count) × (count ≤ 1024) ⌝ }
     ensures { λ r. ⌜ r ≡ col binary32 m cell count x ⌝ }
 {
-    cut((x - m) / cell, count)
+    bucket(x - m, cell, count)
 }
 
 // ---- the cells of a box

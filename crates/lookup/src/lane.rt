@@ -6,6 +6,10 @@ ghost use Rattle.lookup.specs.Sampler.{EndsRise, pastOf, laneOf};
 ghost use Rattle.lookup.specs.Steps.{Halved};
 ghost use Rattle.lookup.specs.Batch.{laneThere, laneId};
 use rounding::bits::wide;
+use shape::lists::SPAN_ID;
+use shape::lists::SPAN_INDICES;
+use shape::lists::SPAN_INDICES_END;
+use shape::lists::SPAN_WORDS;
 use shape::lists::record_word;
 
 // A lane by its id, or that the spans name none.
@@ -41,7 +45,7 @@ fn half_of(spans: &[u32], i: usize, p: Part) -> Part
         return p;
     }
     let half = p.size / 2;
-    let end = wide(spans[5 * (p.low + half) - 1]);
+    let end = wide(spans[SPAN_WORDS * (p.low + half) - 1]);
     Part {
         low: moved(p.low, half, end, i),
         size: p.size - half,
@@ -58,7 +62,7 @@ fn span_past(spans: &[u32], i: usize) -> usize
 {
     let whole = Part {
         low: 0,
-        size: spans.len() / 5,
+        size: spans.len() / SPAN_WORDS,
     };
     let a = half_of(spans, i, half_of(spans, i, whole));
     let b = half_of(spans, i, half_of(spans, i, a));
@@ -68,7 +72,12 @@ fn span_past(spans: &[u32], i: usize) -> usize
     if e.size < 1 {
         return e.low;
     }
-    moved(e.low, 1, wide(spans[5 * e.low + 4]), i)
+    moved(
+        e.low,
+        1,
+        wide(spans[SPAN_WORDS * e.low + SPAN_INDICES_END]),
+        i,
+    )
 }
 
 // The lane that triangle t belongs to.
@@ -79,12 +88,12 @@ pub(crate) fn lane_of(spans: &[u32], t: usize) -> Lane
     ensures { λ r. ⌜ r ≡ laneOf (now (spans .entry)) t ⌝ }
 {
     let i = 3 * t;
-    let n = spans.len() / 5;
+    let n = spans.len() / SPAN_WORDS;
     let k = span_past(spans, i);
     if k < n {
-        let start = record_word(spans, 5, k, 3);
+        let start = record_word(spans, SPAN_WORDS, k, SPAN_INDICES);
         if start <= i {
-            return Lane::Id(record_word(spans, 5, k, 0));
+            return Lane::Id(record_word(spans, SPAN_WORDS, k, SPAN_ID));
         }
     }
     Lane::None

@@ -10,8 +10,9 @@ ghost use Rattle.shape.specs.Lists.{meshLists};
 ghost use Rattle.lookup.specs.Mesh.{cornersOf, normalAt, triangles};
 ghost use Rattle.lookup.specs.Cover.{slack, detOf, overA, weightA, weightB, weightsOf, insideOf, liftOf, faceUp, smoothOf, blendOf, flatOf, normalOf};
 ghost use Rattle.lookup.specs.Plain.{higherOf, scanOf, entryOf, readAnswer, answerOf};
-ghost use Rattle.lookup.specs.Sixteen.{groundAt, Grounded, Gathered, AllLow, Passing, Weighed, Weighs, Poised, HitOf};
+ghost use Rattle.lookup.specs.Sixteen.{groundAt, Grounded, Gathered, AllLow, Passing, Weighed, Weighs, PeakWeighed, HitOf};
 ghost use Rattle.lookup.specs.declared.mesh.Best.the-variants.{At, Nothing};
+use crate::boxes::EDGE_SLACK;
 use rounding::bits::wide;
 use rounding::extremes::abs32;
 use shape::lists::both;
@@ -128,7 +129,7 @@ pub fn weigh(a: Point, b: Point, c: Point, x: f32, y: f32) -> Weights
 // what it leaves for b and c is. Nearly all triangles of a mesh go by this one test, and all one way.
 // A NaN is left to the full test. Asking for it between the two sums keeps the compiler from weaving
 // them into one, which costs more than it saves.
-fn far(a: Point, b: Point, c: Point, x: f32, y: f32) -> bool
+fn clearly_outside(a: Point, b: Point, c: Point, x: f32, y: f32) -> bool
     ensures { λ r. ⌜ (r ≡ true → insideOf (weightsOf a b c x y) ≡ false) ⌝ }
 {
     let over = over_a(b, c, x, y);
@@ -164,9 +165,9 @@ impl Weights {
         if abs32(self.det) < 1e-9 {
             return false;
         }
-        if self.a >= -1e-4 {
-            if self.b >= -1e-4 {
-                return self.c >= -1e-4;
+        if self.a >= -EDGE_SLACK {
+            if self.b >= -EDGE_SLACK {
+                return self.c >= -EDGE_SLACK;
             }
         }
         false
@@ -405,13 +406,13 @@ fn low_turns(
     requires { ⌜ (from + n ≤ length (now run)) × (n ≤ length (now low)) ⌝ }
     requires { ⌜ Passing (now vertices) (now indices) x y (now run) from n (now low) ⌝ }
     requires { ⌜ before .best ≡ scanOf (now vertices) (now indices) x y (entryOf (now run)) from ⌝ }
-    requires { ⌜ Poised (now vertices) (now indices) x y before ⌝ }
+    requires { ⌜ PeakWeighed (now vertices) (now indices) x y before ⌝ }
     ensures { λ r. ⌜ r .best ≡ scanOf (now (vertices .entry)) (now (indices .entry)) x y (entryOf (now (run .entry))) (from + n) ⌝ }
-    ensures { λ r. ⌜ Poised (now (vertices .entry)) (now (indices .entry)) x y r ⌝ }
+    ensures { λ r. ⌜ PeakWeighed (now (vertices .entry)) (now (indices .entry)) x y r ⌝ }
 {
     let mut peak = before;
     for k in 0..n {
-        if low[k] < -1e-4 {
+        if low[k] < -EDGE_SLACK {
             continue;
         }
         let t = wide(run[from + k]);
@@ -428,7 +429,7 @@ fn low_turns(
 }
 
 // The next multiple of 4: the fours then leave no rest.
-fn fours(n: usize) -> usize
+fn next_fourth(n: usize) -> usize
     requires { ⌜ n ≤ 16 ⌝ }
     ensures { λ r. ⌜ (n ≤ r) × (r ≤ 16) ⌝ }
 {
@@ -466,15 +467,15 @@ fn weigh_part(
     ensures { λ r. ⌜ Weighed (now (vertices .entry)) (now (indices .entry)) x y (now (run .entry)) from n (now (low .exit)) r ⌝ }
 {
     let whole = gather(vertices, indices, run, from, n, a, b, c);
-    weigh_all(a, b, c, fours(n), x, y, low);
+    weigh_all(a, b, c, next_fourth(n), x, y, low);
     whole
 }
 
 // The peak of the triangles that a run of triangle numbers names, in its order. Nearly all go by their least
 // weight: it is worked out for sixteen at a time, first the corners and then the weights.
-pub(crate) fn highest_in(vertices: &[f32], indices: &[u32], run: &[u32], x: f32, y: f32) -> Hit
+pub(crate) fn highest(vertices: &[f32], indices: &[u32], run: &[u32], x: f32, y: f32) -> Hit
     ensures { λ r. ⌜ HitOf (now (vertices .entry)) (now (indices .entry)) x y (now (run .entry)) (length (now (run .entry))) (r .peak .best) (r .whole) ⌝ }
-    ensures { λ r. ⌜ Poised (now (vertices .entry)) (now (indices .entry)) x y (r .peak) ⌝ }
+    ensures { λ r. ⌜ PeakWeighed (now (vertices .entry)) (now (indices .entry)) x y (r .peak) ⌝ }
 {
     let mut a = [0f32; 32];
     let mut b = [0f32; 32];
@@ -519,7 +520,7 @@ fn highest_of_all(vertices: &[f32], indices: &[u32], x: f32, y: f32) -> Best
         let Fetch::Corners(a, b, c) = corners(vertices, indices, t) else {
             continue;
         };
-        if far(a, b, c, x, y) {
+        if clearly_outside(a, b, c, x, y) {
             continue;
         }
         let w = weigh(a, b, c, x, y);

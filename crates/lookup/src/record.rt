@@ -44,7 +44,19 @@ pub fn word(n: usize) -> u32
 // How many words a record has: `recordWords` of the definitions.
 pub const RECORD_WORDS: usize = 8;
 
-// Eight words from `at` on, and where they end.
+// Four words from `at` on, and where they end.
+fn put_four(out: &mut [u32], at: usize, a: u32, b: u32, c: u32, d: u32) -> usize
+    requires { ⌜ at + 4 ≤ length (now out) ⌝ }
+    ensures { λ r. ⌜ Put (now (out .entry)) (now (out .exit)) at (a ∷ b ∷ c ∷ d ∷ []) r ⌝ }
+{
+    out[at] = a;
+    out[at + 1] = b;
+    out[at + 2] = c;
+    out[at + 3] = d;
+    at + 4
+}
+
+// Eight words, alike.
 fn put_eight(
     out: &mut [u32],
     at: usize,
@@ -60,15 +72,8 @@ fn put_eight(
     requires { ⌜ at + recordWords ≤ length (now out) ⌝ }
     ensures { λ r. ⌜ Put (now (out .entry)) (now (out .exit)) at (a ∷ b ∷ c ∷ d ∷ e ∷ f ∷ g ∷ h ∷ []) r ⌝ }
 {
-    out[at] = a;
-    out[at + 1] = b;
-    out[at + 2] = c;
-    out[at + 3] = d;
-    out[at + 4] = e;
-    out[at + 5] = f;
-    out[at + 6] = g;
-    out[at + 7] = h;
-    at + RECORD_WORDS
+    let next = put_four(out, at, a, b, c, d);
+    put_four(out, next, e, f, g, h)
 }
 
 // The record of a point's answer, from `at` on.
@@ -146,7 +151,9 @@ pub fn height_record(
     y: f32,
     words: &mut [u32],
 ) -> Sampling
-    ensures { λ r. let m = meshLists (now (vertices .entry)) (now (normals .entry)) (now (indices .entry)) (now (spans .entry)) in ⌜ readSampling r ≡ recordAnswer (plainSample (answerOf m x y)) (length (now (words .entry))) ⌝ }
+    ensures { λ r.
+        let m = meshLists (now (vertices .entry)) (now (normals .entry)) (now (indices .entry)) (now (spans .entry)) in
+        ⌜ readSampling r ≡ recordAnswer (plainSample (answerOf m x y)) (length (now (words .entry))) ⌝ }
     ensures { λ _. let m = meshLists (now (vertices .entry)) (now (normals .entry)) (now (indices .entry)) (now (spans .entry)) in
         ⌜ now (words .exit) ≡ leaves (recordAnswer (plainSample (answerOf m x y)) (length (now (words .entry)))) (recordOf (plainSample (answerOf m x y))) (now (words .entry)) ⌝ }
 {
@@ -165,7 +172,9 @@ pub fn top_record(
     y: f32,
     words: &mut [u32],
 ) -> Sampling
-    ensures { λ r. let m = meshLists (now (vertices .entry)) (now (normals .entry)) (now (indices .entry)) (now (spans .entry)) in ⌜ readSampling r ≡ recordAnswer (topOf m (now (index .entry)) x y) (length (now (words .entry))) ⌝ }
+    ensures { λ r.
+        let m = meshLists (now (vertices .entry)) (now (normals .entry)) (now (indices .entry)) (now (spans .entry)) in
+        ⌜ readSampling r ≡ recordAnswer (topOf m (now (index .entry)) x y) (length (now (words .entry))) ⌝ }
     ensures { λ _. let m = meshLists (now (vertices .entry)) (now (normals .entry)) (now (indices .entry)) (now (spans .entry)) in
         ⌜ now (words .exit) ≡ leaves (recordAnswer (topOf m (now (index .entry)) x y) (length (now (words .entry)))) (recordOf (topOf m (now (index .entry)) x y)) (now (words .entry)) ⌝ }
 {

@@ -8,10 +8,11 @@ ghost use Rattle.shape.specs.Lists.{meshLists};
 ghost use Rattle.lookup.specs.Sampler.{EndsRise, topFault, readSampled, sampleOf, topOf};
 ghost use Rattle.lookup.specs.Consult.{entryFault};
 ghost use Rattle.lookup.specs.Mesh.{triangles};
-ghost use Rattle.lookup.specs.Sixteen.{Small, Poised};
+ghost use Rattle.lookup.specs.Sixteen.{Small, PeakWeighed};
 ghost use Rattle.lookup.specs.Steps.{Ready};
 use crate::consult::Consulted;
 use crate::consult::Front;
+use crate::consult::MAX_WORDS;
 use crate::consult::Opened;
 use crate::consult::at;
 use crate::consult::entry_fault;
@@ -21,7 +22,7 @@ use crate::lane::Lane;
 use crate::lane::lane_of;
 use crate::mesh::Best;
 use crate::mesh::Peak;
-use crate::mesh::highest_in;
+use crate::mesh::highest;
 use crate::mesh::normal_by;
 use shape::lists::mesh_limits;
 use shape::lists::mesh_ragged;
@@ -57,7 +58,7 @@ pub(crate) fn top_fault(
 {
     let limits = or_else(
         mesh_limits(vertices, normals, indices, spans),
-        oversize_if(4194304 < index.len(), 4194304, Check::Fine),
+        oversize_if(MAX_WORDS < index.len(), MAX_WORDS, Check::Fine),
     );
     match limits {
         Check::Faulty(r) => Check::Faulty(r),
@@ -81,7 +82,7 @@ fn run_check(index: &[u32], count: usize, a: usize, e: usize, whole: bool) -> Ch
 }
 
 // The answer that the peak gives: its height, normal, number and lane.
-fn told(
+fn answer_of(
     vertices: &[f32],
     normals: &[f32],
     indices: &[u32],
@@ -91,7 +92,7 @@ fn told(
     peak: Peak,
 ) -> Sampled
     requires { ⌜ Small (peak .best) × (length (now spans) ≤ 5120) × EndsRise (now spans) (length (now spans) / 5) ⌝ }
-    requires { ⌜ Poised (now vertices) (now indices) x y peak ⌝ }
+    requires { ⌜ PeakWeighed (now vertices) (now indices) x y peak ⌝ }
     ensures { λ r. ⌜ readSampled r ≡ taken (sampleOf (meshLists (now (vertices .entry)) (now (normals .entry)) (now (indices .entry)) (now (spans .entry))) x y (peak .best)) ⌝ }
 {
     let best = peak.best;
@@ -123,12 +124,12 @@ pub(crate) fn sample_in(
         Consulted::Refused(r) => Sampled::Refused(r),
         Consulted::Nowhere => Sampled::None,
         Consulted::Run(from, to) => {
-            let hit = highest_in(vertices, indices, at(index, from, to), x, y);
+            let hit = highest(vertices, indices, at(index, from, to), x, y);
             let check = run_check(index, indices.len() / 3, from, to, hit.whole);
             if let Check::Faulty(r) = check {
                 return Sampled::Refused(r);
             }
-            told(vertices, normals, indices, spans, x, y, hit.peak)
+            answer_of(vertices, normals, indices, spans, x, y, hit.peak)
         }
     }
 }

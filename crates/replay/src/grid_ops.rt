@@ -1,5 +1,5 @@
 // The operations on elevation grids.
-use crate::refused::told;
+use crate::refused::reason_of;
 use rounding::bits::bits64;
 use rounding::bits::from_bits64;
 use shape::elevation::Across;
@@ -131,7 +131,7 @@ fn put_elevation(made: &mut [u32], at: usize, e: Elevation) -> usize {
             put_two(made, k, 0, 0)
         }
         Elevation::Refused(r) => {
-            let t = told(r);
+            let t = reason_of(r);
             let k = put_two(made, at, t.number, t.place);
             put_two(made, k, 0, 0)
         }

@@ -3,7 +3,7 @@
 // of words. Where all points are asked in one call, the room for their records stands behind them, and the
 // answer is that of a call that writes.
 use crate::refused::put_refusal;
-use crate::refused::told;
+use crate::refused::reason_of;
 use lookup::batch::tops;
 use lookup::grid::Built;
 use lookup::grid::build;
@@ -57,7 +57,7 @@ fn put_found(made: &mut [u32], at: usize, h: f32, n: Vector, t: usize) -> usize 
 
 // A refusal's number and place, and 0 to fill the `width` words of an answer.
 fn put_refused(made: &mut [u32], at: usize, r: Refusal, width: usize) -> usize {
-    let t = told(r);
+    let t = reason_of(r);
     let k = put_number(made, at, t.number);
     let k = put_number(made, k, t.place);
     if width < 2 {

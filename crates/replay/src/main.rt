@@ -20,7 +20,7 @@ ghost use Rattle.stored.specs.Words.{getWord};
 use names::name;
 use stored::rounding_ops;
 use stored::rounding_ops::may_panic;
-use stored::stream::Place;
+use stored::stream::Cursor;
 use stored::stream::list;
 use stored::stream::next;
 use stored::stream::start;
@@ -43,7 +43,7 @@ enum Verdict {
 
 struct Worked {
     verdict: Verdict,
-    place: Place,
+    place: Cursor,
 }
 
 // What is known after some cases: whether the list is broken there, their tally, how many stand before
@@ -52,7 +52,7 @@ struct Run {
     broken: bool,
     tally: Tally,
     first: u64,
-    place: Place,
+    place: Cursor,
 }
 
 // What is known after some blocks.
@@ -60,7 +60,7 @@ struct Progress {
     more: bool,
     broken: bool,
     tally: Tally,
-    place: Place,
+    place: Cursor,
 }
 
 // Are the first n words the same?
@@ -130,7 +130,7 @@ fn case(
     given: &mut [u32],
     wanted: &mut [u32],
     made: &mut [u32],
-    from: Place,
+    from: Cursor,
 ) -> Worked {
     let input = list(bytes, given, from);
     let place = input.place;
@@ -229,7 +229,7 @@ fn cases(
     given: &mut [u32],
     wanted: &mut [u32],
     made: &mut [u32],
-    from: Place,
+    from: Cursor,
 ) -> Run {
     let mut run = Run {
         broken: false,
@@ -269,7 +269,7 @@ fn block(
     given: &mut [u32],
     wanted: &mut [u32],
     made: &mut [u32],
-    from: Place,
+    from: Cursor,
     all: Tally,
 ) -> Progress {
     let size = next(bytes, from);
@@ -292,7 +292,7 @@ fn advance(
     given: &mut [u32],
     wanted: &mut [u32],
     made: &mut [u32],
-    from: Place,
+    from: Cursor,
     all: Tally,
 ) -> Progress {
     let head = next(bytes, from);

@@ -8,7 +8,7 @@ pub struct Reason {
     pub place: usize,
 }
 
-pub fn told(r: Refusal) -> Reason {
+pub fn reason_of(r: Refusal) -> Reason {
     Reason {
         number: shape::refusal::number(r) as usize,
         place: shape::refusal::place(r),
@@ -17,7 +17,7 @@ pub fn told(r: Refusal) -> Reason {
 
 // A refusal to the front: its number and place.
 pub fn put_refusal(made: &mut [u32], r: Refusal) -> usize {
-    let t = told(r);
+    let t = reason_of(r);
     put_number(made, 0, t.number);
     put_number(made, 1, t.place)
 }

@@ -2,19 +2,47 @@
 use mathlib.Core.Path.{_≡_, refl, sym, ap, ap₂, _∙_, subst}
 use mathlib.Core.Logic.{_⊎_, inl, inr}
 use Prim.Native.Nat.{ℕ, zero, suc, _+_, _-_, _*_, _/_, _%_, _^_, _≤_, _<_, zero-le}
-use native.Mathlib.Nat.{le-trans, le-of-eq, le-of-lt, lt-of-lt-of-le, lt-of-le-of-lt, le-refl, mul-le-mul-right, mul-lt-mul-of-pos-right, le-of-mul-le-mul-right, lt-of-mul-lt-mul-right, mul-pos, mul-one, one-mul, mul-assoc, mul-comm, mul-right-comm, zero-lt-suc, div-add-mod', mod-lt, eq-of-mul-eq-mul-right, eq-or-lt-of-le, pow-succ', div-one, mod-one, add-zero, div-lt-iff-lt-mul, le-div-iff-mul-le, mul-add-mod-self-right, mod-eq-of-lt, zero-add, zero-mul, lt-irrefl, sub-le}
+use native.Mathlib.Nat.{
+  le-trans,
+  le-of-eq,
+  le-of-lt,
+  lt-of-lt-of-le,
+  lt-of-le-of-lt,
+  le-refl,
+  mul-le-mul-right,
+  mul-lt-mul-of-pos-right,
+  mul-pos,
+  mul-one,
+  one-mul,
+  mul-assoc,
+  mul-comm,
+  mul-right-comm,
+  zero-lt-suc,
+  div-add-mod',
+  mod-lt,
+  eq-or-lt-of-le,
+  pow-succ',
+  add-zero,
+  div-lt-iff-lt-mul,
+  le-div-iff-mul-le,
+  mul-add-mod-self-right,
+  mod-eq-of-lt,
+  zero-add,
+  zero-mul,
+  lt-irrefl,
+  sub-le,
+}
 use native.Mathlib.Omega.{arith}
 use mathlib.Core.Bool.{Bool, true, false, not, cond}
-use lib.Dec.{T, leb, ltb, eqb, leb→le, le→leb, nleb→lt, ltb→lt, nltb→le, not-T, lit≤, lit<}
-use lib.Arith.{digits-div, digits-mod, lt→nleb}
+use lib.Dec.{T, leb, ltb, leb→le, nleb→lt, ltb→lt, nltb→le, not-T, lit≤}
+use lib.Arith.{lt→nleb}
 use lib.Ieee.Bits.{is-false}
 use lib.Pow.{pow-add, pow-pos, pow-mono, pow-lt}
-use lib.Ieee.{Float, nan, inf, fin, Format, binary32, binary64, up, down, prec, emax, low, round, toBits, hid, top, ones}
+use lib.Ieee.{Float, nan, inf, fin, Format, up, down, prec, emax, low, round, toBits, hid, top, ones}
 use lib.Ieee.Fits.{two, reach, two-le-pos}
 use lib.Ieee.Exact.{HasValue, round-exact}
-use lib.Ieee.Nearest.{div-same}
 use lib.Ieee.Positive.{first-pos}
-use Rattle.rounding.specs.Steps.{Wholes, limitOf, sizeOf, stepOf, wayOf}
+use Rattle.rounding.specs.Steps.{Wholes, limitOf, sizeOf, addendOf, wayOf}
 use Rattle.rounding.specs.Whole.{Way, toward, half, away, moves, one-if, wholeBy}
 use Rattle.rounding.specs.Laws.Basics.{leb-same, div-at, emax-ge, ones-ge}
 use Rattle.rounding.specs.Laws.Whole.{wholeBy-same, wholeBy-is, size-one}
@@ -34,15 +62,17 @@ round-whole f s K q h a b e = rescale (round f s K 1) s K (2 ^ low f) (q * 2 ^ h
     go (inr l) = round-exact f s K 1 q h (zero-lt-suc 0) l b (e ∙ sym (mul-one (q * 2 ^ h)))
     go (inl i) =
         let x : q * 2 ^ h ≡ 1 * 2 ^ (prec f + h) = ap (λ (y : ℕ). y * 2 ^ h) i ∙ sym (pow-add 2 (prec f) h) ∙ sym (one-mul (2 ^ (prec f + h))) in
-        round-exact f s K 1 1 (prec f + h) (zero-lt-suc 0) (pow-lt {i = 0} (two-le-pos (prec f) (two f))) (subst (λ (y : ℕ). y < 2 ^ (low f + suc (emax f))) x b) (e ∙ x ∙ sym (mul-one (1 * 2 ^ (prec f + h))))
+        round-exact f s K 1 1 (prec f + h) (zero-lt-suc 0) (pow-lt {i = 0} (two-le-pos (prec f) (two f)))
+        (subst (λ (y : ℕ). y < 2 ^ (low f + suc (emax f))) x b) (e ∙ x ∙ sym (mul-one (1 * 2 ^ (prec f + h))))
 
 -- its bits
-pub whole-bits : (f : Format) (s : Bool) (K q h : ℕ) → (h ≡ 0) ⊎ (hid f ≤ q) → q ≤ 2 ^ prec f → q * 2 ^ h < 2 ^ (low f + suc (emax f)) → K * 2 ^ low f ≡ q * 2 ^ h → toBits f (round f s K 1) ≡ cond s (top f) 0 + (h * hid f + q)
+pub whole-bits : (f : Format) (s : Bool) (K q h : ℕ) → (h ≡ 0) ⊎ (hid f ≤ q) → q ≤ 2 ^ prec f → q * 2 ^ h < 2 ^ (low f + suc (emax f)) →
+    K * 2 ^ low f ≡ q * 2 ^ h → toBits f (round f s K 1) ≡ cond s (top f) 0 + (h * hid f + q)
 whole-bits f s K q h o a b e = bits-of f s (round f s K 1) q h (round-whole f s K q h a b e) o a
 
 -- ---- adding the step
 
-pub steps : (w : Way) (a d : ℕ) → 2 ≤ d → d % 2 ≡ 0 → (a + stepOf w d) / d ≡ a / d + one-if (moves w (a % d) d)
+pub steps : (w : Way) (a d : ℕ) → 2 ≤ d → d % 2 ≡ 0 → (a + addendOf w d) / d ≡ a / d + one-if (moves w (a % d) d)
 steps toward a d D e = ap (λ (x : ℕ). x / d) (add-zero a) ∙ sym (add-zero (a / d))
 steps half a d D e = go (leb d (2 * (a % d))) (leb→le d (2 * (a % d))) (nleb→lt d (2 * (a % d)))
   where
@@ -149,7 +179,7 @@ unchanged f s w b l g =
 
 -- ---- digits below one: they are cut off, after the step
 
-pub step-lt : (w : Way) (d : ℕ) → 2 ≤ d → stepOf w d < d
+pub step-lt : (w : Way) (d : ℕ) → 2 ≤ d → addendOf w d < d
 step-lt toward d h = omega arith
 step-lt half d h = omega arith
 step-lt away d h = omega arith
@@ -173,7 +203,7 @@ normal f b p h = go (p .lead)
     go (inl z) = let e = ap (λ (y : ℕ). y * hid f) z in let d = div-add-mod' b (hid f) in let m = mul-le-mul-right (hid f) h in omega arith
 
 pub cut : (f : Format) (s : Bool) (w : Way) (b : ℕ) → b < ones f * hid f → emax f ≤ b / hid f → b / hid f < emax f + prec f - 1
-    → let U = 2 ^ (emax f + prec f - 1 - b / hid f) in Wholes f s w b (b + stepOf w U - (b + stepOf w U) % U)
+    → let U = 2 ^ (emax f + prec f - 1 - b / hid f) in Wholes f s w b (b + addendOf w U - (b + addendOf w U) % U)
 cut f s w b l g k =
     let p = parts f b in
     let q = digs f b in
@@ -188,7 +218,7 @@ cut f s w b l g k =
     let c = 2 ^ (prec f - 1 - i) in
     let hc : hid f ≡ c * U = ap (λ (x : ℕ). 2 ^ x) ic ∙ pow-add 2 (prec f - 1 - i) i in
     let U2 : 2 ≤ U = pow-mono one-le in
-    let st = stepOf w U in
+    let st = addendOf w U in
     let sl = step-lt w U U2 in
     let K = (q + st) / U in
     let e1 : K ≡ q / U + one-if (moves w (q % U) U) = steps w q U U2 (pow-even i one-le) in

@@ -1,25 +1,46 @@
 -- The root of a number by the fields of its bit pattern, with the format as a parameter. Assumes nothing.
-use mathlib.Core.Path.{_≡_, refl, sym, ap, ap₂, _∙_, subst}
-use mathlib.Core.Logic.{_⊎_, inl, inr, _≢_}
+use mathlib.Core.Path.{_≡_, refl, sym, ap, _∙_, subst}
+use mathlib.Core.Logic.{_≢_}
 use Prim.Native.Nat.{ℕ, zero, suc, _+_, _-_, _*_, _/_, _%_, _^_, _≤_, _<_}
-use native.Mathlib.Nat.{le-trans, le-of-eq, le-of-lt, lt-of-lt-of-le, lt-of-le-of-lt, lt-irrefl, mul-pos, mul-comm, mul-one, mul-le-mul-right, mul-right-comm, zero-lt-suc, zero-mul, mod-eq-of-lt, mod-lt, mod-mod-of-dvd, dvd-mul-right, div-add-mod', div-lt-iff-lt-mul, le-add-right, one-mul, eq-of-mul-eq-mul-right, eq-zero-or-pos, zero-div, zero-mod, lt-of-not-le}
+use native.Mathlib.Nat.{
+  le-trans,
+  le-of-eq,
+  le-of-lt,
+  lt-of-lt-of-le,
+  lt-of-le-of-lt,
+  lt-irrefl,
+  mul-pos,
+  mul-comm,
+  mul-le-mul-right,
+  mul-right-comm,
+  zero-lt-suc,
+  mod-eq-of-lt,
+  mod-mod-of-dvd,
+  dvd-mul-right,
+  div-add-mod',
+  div-lt-iff-lt-mul,
+  le-add-right,
+  one-mul,
+  eq-of-mul-eq-mul-right,
+  zero-div,
+  zero-mod,
+}
 use native.Mathlib.Omega.{arith}
 use mathlib.Core.Bool.{Bool, true, false, not, cond}
-use lib.IntN.{ℤ, pos}
-use lib.Dec.{T, leb, ltb, eqb, eqb→eq, ltb→lt, nltb→le, le→leb, not-T, lit≤, lit<}
+use lib.IntN.{pos}
+use lib.Dec.{T, leb, ltb, eqb, eqb→eq, ltb→lt, nltb→le, le→leb, not-T, lit<}
 use lib.Arith.{lt→nleb, le→nltb}
 use lib.Bits.{bitAnd, and-mask}
 use lib.Count.{trailingZeros}
 use lib.Pow.{pow-pos, shl-exact}
-use lib.Ieee.{Float, nan, inf, fin, Format, binary32, binary64, prec, emax, low, up, down, minus, odd, round, hid, ones, top, ofFields, ofBits, toBits, fits, isNan, nanBits, ne, div}
+use lib.Ieee.{Float, nan, inf, fin, Format, binary32, binary64, prec, low, up, down, minus, odd, round, hid, ones, top, ofFields, ofBits, toBits, fits, isNan, nanBits, ne}
 use lib.Ieee.Digits.{odd-val}
-use lib.Ieee.Fits.{two, eq→eqb, down-pos}
-use lib.Ieee.Bits.{is-true, is-false, cond-no, ofBits-toBits, toBits-lt, nanBits-is, nanBits-above}
+use lib.Ieee.Fits.{eq→eqb, down-pos}
+use lib.Ieee.Bits.{is-true, is-false, cond-no, ofBits-toBits, nanBits-is, nanBits-above}
 use lib.Ieee.Nearest.{div-same}
 use lib.Ieee.Positive.{first-pos}
-use lib.Ieee.Compare.{differs-from-itself, nan-differs}
+use lib.Ieee.Compare.{differs-from-itself}
 use Rattle.rounding.specs.Root.{isqrt, rootOf, sqrtOf}
-use Rattle.rounding.specs.Steps.{Shaped, Rooted}
 use Rattle.rounding.specs.Laws.Basics.{same-test}
 use Rattle.rounding.specs.Laws.RootNearest.{over, rootOf-is, sqrt-fin}
 
@@ -98,7 +119,8 @@ unfolding ofFields
 field-some f s t zero h k = absurd (lt-irrefl 0 h)
 field-some f s t (suc x) h k =
     let e : suc x - 1 ≡ x = omega arith in
-    cond-no (eqb (suc x) (ones f)) (cond (eqb t 0) (inf s) nan) (odd (prec f) s (hid f + t) x (low f)) (not-T (eqb (suc x) (ones f)) (λ u. lt-irrefl (ones f) (subst (λ (y : ℕ). y < ones f) (eqb→eq (suc x) (ones f) u) k)))
+    cond-no (eqb (suc x) (ones f)) (cond (eqb t 0) (inf s) nan) (odd (prec f) s (hid f + t) x (low f))
+    (not-T (eqb (suc x) (ones f)) (λ u. lt-irrefl (ones f) (subst (λ (y : ℕ). y < ones f) (eqb→eq (suc x) (ones f) u) k)))
     ∙ ap (λ (y : ℕ). odd (prec f) s (hid f + t) y (low f)) (sym e)
 
 pub sqrt-low : (f : Format) (b : ℕ) → 0 < b → b < ones f * hid f → b / hid f ≡ 0 → sqrtOf f (ofBits f b) ≡ rootOf f (b % hid f * 2 ^ 0) (2 ^ low f)
@@ -188,7 +210,8 @@ neg-root f x t n l z =
     let s : b % top f ≤ ones f * hid f = nltb→le (ones f * hid f) (b % top f) m in
     let g : top f ≤ b = nltb→le b (top f) (not-T (ltb b (top f)) (λ u. lt-irrefl b (lt-of-le-of-lt (le-trans (le-of-eq (sym (mod-eq-of-lt (ltb→lt b (top f) u)))) s) l))) in
     let d = div-add-mod' (b % top f) (hid f) in
-    let j : ofBits f b ≡ ofFields f true (b % top f / hid f) (b % hid f) = ofBits-is f b ∙ ap (λ (y : Bool). ofFields f y (b % top f / hid f) (b % hid f)) (is-true (leb (top f) b) (le→leb (top f) b g)) in
+    let j : ofBits f b ≡ ofFields f true (b % top f / hid f) (b % hid f) =
+    ofBits-is f b ∙ ap (λ (y : Bool). ofFields f y (b % top f / hid f) (b % hid f)) (is-true (leb (top f) b) (le→leb (top f) b g)) in
     ap (sqrtOf f) (i ∙ j)
     ∙ sqrt-neg f (b % top f / hid f) (b % hid f)
     (λ e. let k = ap (λ (y : ℕ). y * hid f) e in let q = low-part f b in let w : b % top f ≢ 0 = z in omega arith)

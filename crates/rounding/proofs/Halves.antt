@@ -1,6 +1,6 @@
 -- The whole root by its final test, and the root of a number of 108 digits from that of its upper half. No law here speaks of how good a guess is.
 -- Assumes nothing.
-use mathlib.Core.Path.{_≡_, sym, ap}
+use mathlib.Core.Path.{_≡_, ap}
 use Prim.Native.Nat.{ℕ, zero, suc, _+_, _-_, _*_, _/_, _%_, _^_, _≤_, _<_}
 use native.Mathlib.Nat.{mul-le-mul, mul-le-mul-right, mod-lt, div-add-mod', div-le-of-le-mul}
 use native.Mathlib.Omega.{arith}

@@ -2,7 +2,7 @@
 use mathlib.Core.Path.{_≡_}
 use mathlib.Core.Bool.{not, _&&_}
 use lib.Dec.{T}
-use lib.Ieee.{Float, binary32, binary64, fits, ofBits, add, mul, le, lt}
+use lib.Ieee.{Float, binary32, binary64, fits, ofBits, mul, le, lt}
 use lib.Ieee.Fits.{add-fits}
 use Rattle.rounding.specs.Hypot.{squaresOf, hypotOf}
 use Rattle.rounding.specs.Width.{narrowOf}

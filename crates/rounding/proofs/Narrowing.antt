@@ -1,14 +1,13 @@
 -- An `f64` to the nearest `f32` by its bits. Assumes nothing.
-use mathlib.Core.Path.{_≡_, refl, sym, ap, ap₂, _∙_, subst}
-use Prim.Native.Nat.{ℕ, zero, suc, _+_, _-_, _*_, _/_, _%_, _^_, _≤_, _<_, min}
-use native.Mathlib.Nat.{le-trans, le-of-eq, le-of-lt, mod-eq-of-lt, add-mod-left, zero-add}
-use native.Mathlib.Omega.{arith}
+use mathlib.Core.Path.{_≡_, refl, sym, ap, _∙_, subst}
+use Prim.Native.Nat.{ℕ, zero, suc, _+_, _*_, _/_, _%_, _^_, _≤_, _<_}
+use native.Mathlib.Nat.{le-trans, le-of-eq, mod-eq-of-lt, add-mod-left, zero-add}
 use mathlib.Core.Bool.{Bool, true, false, not, cond}
-use lib.Dec.{T, leb, lit≤, lit<}
+use lib.Dec.{T, leb}
 use lib.Arith.{le→nltb}
 use lib.Count.{trailingZeros}
 use lib.Pow.{pow-pos}
-use lib.Ieee.{Float, nan, inf, fin, Format, binary32, binary64, prec, low, up, down, minus, odd, round, hid, ones, top, ofBits, toBits, fits, nanBits, ne, div}
+use lib.Ieee.{Float, nan, inf, Format, binary32, binary64, prec, low, up, down, minus, odd, round, hid, ones, top, ofBits, toBits, fits, nanBits, ne}
 use lib.Ieee.Digits.{odd-val}
 use lib.Ieee.Fits.{down-pos, round-fits}
 use lib.Ieee.Bits.{ofBits-toBits, nanBits-above}
@@ -35,7 +34,9 @@ narrow-odd f d s (suc q) k l =
     let e = minus (k + t) l in
     round-same f s (suc q / 2 ^ t * up e) (down e) (suc q * 2 ^ k) (2 ^ l) (down-pos e) (pow-pos l) (odd-val d s (suc q) k l)
 
-pub signed-thin : (x : Float) (s : Bool) (r : ℕ) → T (fits binary64 x) → sized binary64 x < ones binary64 * hid binary64 → leb (top binary64) (toBits binary64 x) ≡ s → Narrows s (sized binary64 x) r → ofBits binary32 (cond s (top binary32) 0 + r) ≡ narrowOf binary32 x
+pub signed-thin : (x : Float) (s : Bool) (r : ℕ) → T (fits binary64 x) → sized binary64 x < ones binary64 * hid binary64 →
+    leb (top binary64) (toBits binary64 x) ≡ s → Narrows s (sized binary64 x) r →
+    ofBits binary32 (cond s (top binary32) 0 + r) ≡ narrowOf binary32 x
 signed-thin x s r t l e h =
     let b = sized binary64 x in
     ap (ofBits binary32) (sym (h .value))

@@ -1,25 +1,25 @@
 -- Which bits the numbers next to 1 have: the order of sizes is that of their patterns. Assumes nothing.
 use mathlib.Core.Path.{_≡_, refl, sym, ap, ap₂, _∙_, subst}
 use mathlib.Core.Logic.{_⊎_, inl, inr, _≢_}
-use Prim.Native.Nat.{ℕ, zero, suc, _+_, _-_, _*_, _/_, _%_, _^_, _≤_, _<_}
-use native.Mathlib.Nat.{le-of-eq, le-of-lt, le-trans, lt-of-lt-of-le, lt-irrefl, mul-pos, mul-le-mul-right, mul-lt-mul-of-pos-right, le-of-mul-le-mul-right, eq-or-lt-of-le, mod-eq-of-lt, pow-succ'}
+use Prim.Native.Nat.{ℕ, suc, _+_, _-_, _*_, _/_, _^_, _≤_, _<_}
+use native.Mathlib.Nat.{le-of-eq, le-of-lt, lt-of-lt-of-le, lt-irrefl, mul-pos, mul-le-mul-right, mul-lt-mul-of-pos-right, le-of-mul-le-mul-right, eq-or-lt-of-le, mod-eq-of-lt, pow-succ'}
 use native.Mathlib.Omega.{arith}
 use mathlib.Core.Bool.{Bool, true, false, not, _&&_, true≢false}
-use lib.IntN.{ℤ, negsuc}
+use lib.IntN.{negsuc}
 use lib.Dec.{T, not-T, leb, eqb, leb→le, le→leb, nleb→lt}
 use lib.Ieee.Bits.{is-false}
 use borrow.Author.Tests.{le-leb, lt-leb, eqb-true, eqb-false}
-use lib.Pow.{pow-add, pow-pos, pow-mono}
-use lib.Ieee.{Float, nan, inf, fin, Format, binary32, prec, low, hid, ones, top, up, down, toBits, fits, isNan, le, lt, ne}
+use lib.Pow.{pow-pos, pow-mono}
+use lib.Ieee.{Float, nan, inf, fin, Format, binary32, prec, hid, ones, top, up, down, toBits, fits, isNan, le, lt, ne}
 use lib.Ieee.Exact.{HasValue, odd-sign}
 use lib.Ieee.Fits.{two, down-pos}
 use lib.Ieee.Nearest.{div-mono}
 use Rattle.rounding.specs.Root.{nearOne}
 use Rattle.rounding.specs.Steps.{sizeOf}
-use Rattle.rounding.specs.Laws.Basics.{same-test, leb-same}
-use Rattle.rounding.specs.Laws.Order.{IsNum, le→Le, Le→le, lt-iff-not-le, nan-of-differs}
+use Rattle.rounding.specs.Laws.Basics.{same-test}
+use Rattle.rounding.specs.Laws.Order.{le→Le, Le→le, lt-iff-not-le, nan-of-differs}
 use Rattle.rounding.proofs.Pattern.{twice}
-use Rattle.rounding.proofs.Cut.{expo, digs, Parts, parts}
+use Rattle.rounding.proofs.Cut.{expo, digs, parts}
 use Rattle.rounding.proofs.Sign.{sized, sized-lt, is-inf, finite-odd}
 
 -- ---- the order of two patterns is that of their sizes
@@ -151,7 +151,9 @@ near-bits x t n = go (eqb (sized binary32 x) (ones binary32 * hid binary32)) (eq
         l = sized-lt binary32 x t n (z refl)
 
         value : (s : Bool) → leb (top binary32) (toBits binary32 x) ≡ s → HasValue x s (sizeOf 24 (sized binary32 x)) (2 ^ 149)
-        value s k = subst (λ (y : Float). HasValue y s (sizeOf 24 (sized binary32 x)) (2 ^ 149)) (sym (finite-odd binary32 x s t l k)) (odd-sign 24 s (digs binary32 (sized binary32 x)) (expo binary32 (sized binary32 x)) 149)
+        value s k =
+            subst (λ (y : Float). HasValue y s (sizeOf 24 (sized binary32 x)) (2 ^ 149)) (sym (finite-odd binary32 x s t l k))
+            (odd-sign 24 s (digs binary32 (sized binary32 x)) (expo binary32 (sized binary32 x)) 149)
 
         signs : (s : Bool) → leb (top binary32) (toBits binary32 x) ≡ s → (T s → top binary32 ≤ toBits binary32 x) → (T (not s) → toBits binary32 x < top binary32)
             → nearOne x ≡ leb 0x3f7f_f000 (toBits binary32 x) && not (leb 0x3f80_1000 (toBits binary32 x))

@@ -1,18 +1,37 @@
 -- The bits of a number that is rounded to a format, an infinity among them: `units-bits`. And of a number with more digits than the format keeps: `packs`. Assumes nothing.
-use mathlib.Core.Path.{_≡_, refl, sym, ap, ap₂, _∙_, subst}
+use mathlib.Core.Path.{_≡_, refl, sym, ap, _∙_}
 use mathlib.Core.Logic.{_⊎_, inl, inr}
 use Prim.Native.Nat.{ℕ, zero, suc, _+_, _-_, _*_, _/_, _%_, _^_, _≤_, _<_, min, compare, Ordering, Ordering·lt, Ordering·eq, Ordering·gt}
-use native.Mathlib.Nat.{le-trans, le-of-eq, le-of-lt, lt-of-lt-of-le, lt-of-le-of-lt, lt-irrefl, lt-of-not-le, not-le-of-lt, le-of-suc-le-suc, mul-le-mul-right, mul-lt-mul-of-pos-right, le-of-mul-le-mul-right, mul-pos, mul-one, mul-assoc, mul-comm, mul-right-comm, zero-lt-suc, zero-add, add-assoc, div-lt-iff-lt-mul, le-div-iff-mul-le, div-add-mod', mod-lt, min-eq-left, min-eq-right, mod-eq-of-lt}
+use native.Mathlib.Nat.{
+  le-trans,
+  le-of-eq,
+  le-of-lt,
+  lt-of-lt-of-le,
+  lt-of-not-le,
+  not-le-of-lt,
+  mul-le-mul-right,
+  mul-lt-mul-of-pos-right,
+  le-of-mul-le-mul-right,
+  mul-pos,
+  mul-assoc,
+  div-lt-iff-lt-mul,
+  le-div-iff-mul-le,
+  div-add-mod',
+  mod-lt,
+  min-eq-left,
+  min-eq-right,
+  mod-eq-of-lt,
+}
 use native.Mathlib.Omega.{arith}
 use mathlib.Core.Bool.{Bool, true, false, not, cond}
-use lib.Dec.{T, ltb, leb, ltb→lt, nltb→le, lt→ltb, lit≤, lit<}
-use lib.Pow.{pow-add, pow-pos, pow-mono, pow-lt}
-use lib.Ieee.{Float, inf, Format, binary32, binary64, prec, emax, low, size, odd, units, round, toBits, hid, top, ones, nearest}
-use lib.Arith.{le→nltb, digits-div}
+use lib.Dec.{T, ltb, ltb→lt, nltb→le}
+use lib.Pow.{pow-add, pow-pos, pow-mono}
+use lib.Ieee.{inf, Format, prec, emax, low, size, odd, units, round, toBits, hid, top, ones, nearest}
+use lib.Arith.{le→nltb}
 use lib.Ieee.Bits.{is-false}
 use lib.Ieee.Digits.{size-le}
 use lib.Ieee.Fits.{two, round-is, nearest-le}
-use lib.Ieee.Exact.{HasValue, units-val}
+use lib.Ieee.Exact.{units-val}
 use lib.Ieee.Nearest.{closest, closest-same, div-same, nearest-ge}
 use Rattle.rounding.specs.Laws.Basics.{pow-le-back, div-at, ones-ge}
 use Rattle.rounding.specs.Laws.Nearest.{Cmp, cmp}
@@ -33,7 +52,9 @@ over-bits f q h o a g =
     let t = two f in
     let n = ones-ge f in
     let w = twice (prec f) t in
-    let i : prec f + (ones f - 2) ≤ prec f + h = pow-le-back (prec f + (ones f - 2)) (prec f + h) (le-trans (le-of-eq (ap (λ (x : ℕ). 2 ^ x) (sym (limit-is f)))) (le-trans g (le-trans (mul-le-mul-right (2 ^ h) a) (le-of-eq (sym (pow-add 2 (prec f) h)))))) in
+    let i : prec f + (ones f - 2) ≤ prec f + h = pow-le-back (prec f + (ones f - 2)) (prec f + h)
+    (le-trans (le-of-eq (ap (λ (x : ℕ). 2 ^ x) (sym (limit-is f))))
+    (le-trans g (le-trans (mul-le-mul-right (2 ^ h) a) (le-of-eq (sym (pow-add 2 (prec f) h)))))) in
     let k : hid f ≤ q = full f q h o (omega arith) in
     go (ltb (ones f - 2) h) (ltb→lt (ones f - 2) h) (nltb→le (ones f - 2) h) k i
   where
@@ -47,7 +68,9 @@ over-bits f q h o a g =
         let x = n tt in
         let l = ones-ge f in
         let e : h ≡ ones f - 2 = omega arith in
-        let z : 2 ^ prec f ≤ q = le-of-mul-le-mul-right {k = 2 ^ h} (le-trans (le-of-eq (sym (pow-add 2 (prec f) h) ∙ ap (λ (v : ℕ). 2 ^ v) (ap (λ (v : ℕ). prec f + v) e ∙ sym (limit-is f)))) g) (pow-pos h) in
+        let z : 2 ^ prec f ≤ q = le-of-mul-le-mul-right {k = 2 ^ h}
+        (le-trans (le-of-eq (sym (pow-add 2 (prec f) h) ∙ ap (λ (v : ℕ). 2 ^ v) (ap (λ (v : ℕ). prec f + v) e ∙ sym (limit-is f)))) g)
+        (pow-pos h) in
         let w = twice (prec f) (two f) in
         let j : ones f ≡ h + 2 = omega arith in
         let v = ap (λ (v : ℕ). v * hid f) j in
@@ -91,12 +114,15 @@ inf-bits f s = refl
 
 inf-units : (f : Format) (s : Bool) (q h : ℕ) → 2 ^ (low f + suc (emax f)) ≤ q * 2 ^ h → units f s q h ≡ inf s
 unfolding units
-inf-units f s q h g = ap (λ (b : Bool). cond b (odd (suc (prec f)) s q h (low f)) (inf s)) (is-false (ltb (q * 2 ^ h) (2 ^ (low f + suc (emax f)))) (le→nltb (q * 2 ^ h) (2 ^ (low f + suc (emax f))) g))
+inf-units f s q h g =
+    ap (λ (b : Bool). cond b (odd (suc (prec f)) s q h (low f)) (inf s))
+    (is-false (ltb (q * 2 ^ h) (2 ^ (low f + suc (emax f)))) (le→nltb (q * 2 ^ h) (2 ^ (low f + suc (emax f))) g))
 
 pub units-bits : (f : Format) (s : Bool) (q h : ℕ) → (h ≡ 0) ⊎ (hid f ≤ q) → q ≤ 2 ^ prec f → toBits f (units f s q h) ≡ cond s (top f) 0 + min (h * hid f + q) (ones f * hid f)
 units-bits f s q h o a = go (ltb (q * 2 ^ h) (2 ^ (low f + suc (emax f)))) (ltb→lt (q * 2 ^ h) (2 ^ (low f + suc (emax f)))) (nltb→le (q * 2 ^ h) (2 ^ (low f + suc (emax f))))
   where
-    go : (b : Bool) → (T b → q * 2 ^ h < 2 ^ (low f + suc (emax f))) → (T (not b) → 2 ^ (low f + suc (emax f)) ≤ q * 2 ^ h) → toBits f (units f s q h) ≡ cond s (top f) 0 + min (h * hid f + q) (ones f * hid f)
+    go : (b : Bool) → (T b → q * 2 ^ h < 2 ^ (low f + suc (emax f))) → (T (not b) → 2 ^ (low f + suc (emax f)) ≤ q * 2 ^ h) →
+        toBits f (units f s q h) ≡ cond s (top f) 0 + min (h * hid f + q) (ones f * hid f)
     go true y n =
         bits-of f s (units f s q h) q h (units-val f s q h (y tt)) o a
         ∙ ap (λ (x : ℕ). cond s (top f) 0 + x) (sym (min-eq-left (le-of-lt (under-bits f q h o a (y tt)))))
@@ -113,7 +139,8 @@ closest-ge q U = nearest-ge (q / U) (compare (q % U * 2) U)
 pub closest-le : (q U : ℕ) → closest q U ≤ suc (q / U)
 closest-le q U = nearest-le (q / U) (compare (q % U * 2) U)
 
-module _ (f : Format) (s : Bool) (q h D k S : ℕ) (same : h + S ≡ D + k) (dropped : size (q * 2 ^ h / 2 ^ D) - prec f ≡ k) (lead : (k ≡ 0) ⊎ (hid f ≤ closest q (2 ^ S))) (room : closest q (2 ^ S) ≤ 2 ^ prec f) where
+module _ (f : Format) (s : Bool) (q h D k S : ℕ) (same : h + S ≡ D + k) (dropped : size (q * 2 ^ h / 2 ^ D) - prec f ≡ k)
+    (lead : (k ≡ 0) ⊎ (hid f ≤ closest q (2 ^ S))) (room : closest q (2 ^ S) ≤ 2 ^ prec f) where
   n-is : q * 2 ^ h * 2 ^ low f / 2 ^ (low f + D) ≡ q * 2 ^ h / 2 ^ D
   n-is =
       div-same (q * 2 ^ h * 2 ^ low f) (2 ^ (low f + D)) (q * 2 ^ h) (2 ^ D) (pow-pos (low f + D)) (pow-pos D)
@@ -142,8 +169,13 @@ module _ (f : Format) (s : Bool) (q h D c : ℕ) (short : q < 2 ^ (prec f + c)) 
       let k = h + c - D in
       let i : k + D ≡ h + c = omega arith in
       let j : h + c ≡ D + k = omega arith in
-      let x : hid f * 2 ^ k * 2 ^ D ≤ q * 2 ^ h = le-trans (le-of-eq (mul-assoc (hid f) (2 ^ k) (2 ^ D) ∙ ap (λ (v : ℕ). hid f * v) (sym (pow-add 2 k D) ∙ ap (λ (v : ℕ). 2 ^ v) (i ∙ comm h c) ∙ pow-add 2 c h) ∙ sym (mul-assoc (hid f) (2 ^ c) (2 ^ h)) ∙ ap (λ (v : ℕ). v * 2 ^ h) (sym (pow-add 2 (prec f - 1) c)))) (mul-le-mul-right (2 ^ h) lo) in
-      let y : q * 2 ^ h < 2 ^ prec f * 2 ^ k * 2 ^ D = lt-of-lt-of-le (mul-lt-mul-of-pos-right short (pow-pos h)) (le-of-eq (sym (mul-assoc (2 ^ prec f) (2 ^ k) (2 ^ D) ∙ ap (λ (v : ℕ). 2 ^ prec f * v) (sym (pow-add 2 k D) ∙ ap (λ (v : ℕ). 2 ^ v) (i ∙ comm h c) ∙ pow-add 2 c h) ∙ sym (mul-assoc (2 ^ prec f) (2 ^ c) (2 ^ h)) ∙ ap (λ (v : ℕ). v * 2 ^ h) (sym (pow-add 2 (prec f) c))))) in
+      let x : hid f * 2 ^ k * 2 ^ D ≤ q * 2 ^ h = le-trans (le-of-eq (mul-assoc (hid f) (2 ^ k) (2 ^ D)
+      ∙ ap (λ (v : ℕ). hid f * v) (sym (pow-add 2 k D) ∙ ap (λ (v : ℕ). 2 ^ v) (i ∙ comm h c) ∙ pow-add 2 c h)
+      ∙ sym (mul-assoc (hid f) (2 ^ c) (2 ^ h)) ∙ ap (λ (v : ℕ). v * 2 ^ h) (sym (pow-add 2 (prec f - 1) c)))) (mul-le-mul-right (2 ^ h) lo) in
+      let y : q * 2 ^ h < 2 ^ prec f * 2 ^ k * 2 ^ D = lt-of-lt-of-le (mul-lt-mul-of-pos-right short (pow-pos h))
+      (le-of-eq (sym (mul-assoc (2 ^ prec f) (2 ^ k) (2 ^ D)
+      ∙ ap (λ (v : ℕ). 2 ^ prec f * v) (sym (pow-add 2 k D) ∙ ap (λ (v : ℕ). 2 ^ v) (i ∙ comm h c) ∙ pow-add 2 c h)
+      ∙ sym (mul-assoc (2 ^ prec f) (2 ^ c) (2 ^ h)) ∙ ap (λ (v : ℕ). v * 2 ^ h) (sym (pow-add 2 (prec f) c))))) in
       packs f s q h D k c j
       (size-at (prec f) k (q * 2 ^ h / 2 ^ D) (two f) (le-div-iff-mul-le (pow-pos D) .1 x) (div-lt-iff-lt-mul (pow-pos D) .1 y))
       (inr (le-trans (le-div-iff-mul-le (pow-pos c) .1 (le-trans (le-of-eq (sym (pow-add 2 (prec f - 1) c))) lo)) (closest-ge q (2 ^ c))))
@@ -159,7 +191,8 @@ module _ (f : Format) (s : Bool) (q h D c : ℕ) (short : q < 2 ^ (prec f + c)) 
       let j : h + S ≡ D + 0 = omega arith in
       let i : prec f + c + h ≤ prec f + D = omega arith in
       let i2 : prec f + c ≤ prec f + S = omega arith in
-      let y : q * 2 ^ h < 2 ^ prec f * 2 ^ D = lt-of-lt-of-le (mul-lt-mul-of-pos-right short (pow-pos h)) (le-trans (le-of-eq (sym (pow-add 2 (prec f + c) h))) (le-trans (pow-mono i) (le-of-eq (pow-add 2 (prec f) D)))) in
+      let y : q * 2 ^ h < 2 ^ prec f * 2 ^ D = lt-of-lt-of-le (mul-lt-mul-of-pos-right short (pow-pos h))
+      (le-trans (le-of-eq (sym (pow-add 2 (prec f + c) h))) (le-trans (pow-mono i) (le-of-eq (pow-add 2 (prec f) D)))) in
       let z : size (q * 2 ^ h / 2 ^ D) ≤ prec f = size-le (q * 2 ^ h / 2 ^ D) (prec f) (div-lt-iff-lt-mul (pow-pos D) .1 y) in
       packs f s q h D 0 S j
       (omega arith)

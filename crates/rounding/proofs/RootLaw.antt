@@ -1,21 +1,36 @@
 -- The root that `root_of` works out is the rounded root of the specification, whatever the format. Assumes nothing.
-use mathlib.Core.Path.{_≡_, refl, sym, ap, ap₂, _∙_, subst}
+use mathlib.Core.Path.{_≡_, refl, sym, ap, _∙_, subst}
 use Prim.Native.Nat.{ℕ, zero, suc, _+_, _-_, _*_, _/_, _%_, _^_, _≤_, _<_, compare, Ordering, Ordering·lt, Ordering·eq, Ordering·gt}
-use native.Mathlib.Nat.{le-refl, le-trans, le-of-eq, le-of-lt, lt-of-lt-of-le, lt-of-le-of-lt, lt-of-not-le, not-le-of-lt, lt-irrefl, le-antisymm, mul-le-mul, mul-le-mul-left, mul-le-mul-right, mul-lt-mul-of-pos-right, mul-pos, mul-comm, mul-assoc, mul-left-comm, mul-right-comm, mul-one, mul-div-cancel, pow-suc, pow-succ', div-lt-iff-lt-mul, le-div-iff-mul-le, zero-lt-suc, zero-add, eq-of-mul-eq-mul-right}
+use native.Mathlib.Nat.{
+  le-trans,
+  le-of-eq,
+  le-of-lt,
+  lt-of-lt-of-le,
+  lt-of-not-le,
+  lt-irrefl,
+  mul-le-mul-right,
+  mul-lt-mul-of-pos-right,
+  mul-pos,
+  mul-div-cancel,
+  pow-succ',
+  div-lt-iff-lt-mul,
+  le-div-iff-mul-le,
+  zero-lt-suc,
+  zero-add,
+  eq-of-mul-eq-mul-right,
+}
 use native.Mathlib.Omega.{arith}
 use mathlib.Core.Logic.{inr}
-use mathlib.Core.Bool.{Bool, true, false, not, cond}
-use lib.IntN.{ℤ}
-use lib.Dec.{T, isLe, isEq, leb, eqb, leb→le, nleb→lt, eqb→eq, eqb-refl, lit≤, lit<}
-use lib.Arith.{digits-div, digits-mod, lt-of-le-ne}
-use lib.Pow.{pow-add, pow-pos, pow-mono, pow-lt}
-use lib.Ieee.{Float, nan, inf, fin, Format, prec, emax, low, up, down, size, nearest, round, ofBits, toBits, hid, ones, top}
-use lib.Ieee.Digits.{size-lt, size-le, size-reaches}
-use lib.Ieee.Fits.{two, reach, round-fits, down-pos}
+use mathlib.Core.Bool.{Bool, true, false}
+use lib.Dec.{T, eqb, eqb→eq}
+use lib.Arith.{digits-div, digits-mod}
+use lib.Pow.{pow-add, pow-pos, pow-mono}
+use lib.Ieee.{Float, Format, prec, emax, low, size, nearest, round, ofBits, toBits, hid, ones}
+use lib.Ieee.Fits.{two, round-fits}
 use lib.Ieee.Bits.{ofBits-toBits}
 use lib.Ieee.Exact.{HasValue}
 use lib.Ieee.Nearest.{closest, closest-same, div-same}
-use lib.Ieee.Order.{drop, kept}
+use lib.Ieee.Order.{drop}
 use lib.Ieee.Scale.{grid, overflow, round-val}
 use Rattle.rounding.specs.Root.{isqrt, rootOf}
 use Rattle.rounding.specs.Steps.{Root, Rooted}
@@ -224,7 +239,8 @@ module _ (f : Format) (n v h R : ℕ)
       let r = isqrt N in
       let t = eqb (r * r * 2 ^ low f) (n * 4 ^ suc (low f)) in
       let is : Root r (2 * v * 2 ^ prec f * (2 ^ h * 2 ^ h)) = subst (λ (x : ℕ). Root r x) radicand (isqrt-root N) in
-      let none : over t ≡ 0 → r * r ≡ 2 * v * 2 ^ prec f * (2 ^ h * 2 ^ h) = λ z. cancel (r * r) (2 * v * 2 ^ prec f * (2 ^ h * 2 ^ h)) (2 ^ low f) (pow-pos (low f)) (exact (r * r * 2 ^ low f) (n * 4 ^ suc (low f)) z ∙ whole) in
+      let none : over t ≡ 0 → r * r ≡ 2 * v * 2 ^ prec f * (2 ^ h * 2 ^ h) = λ z. cancel (r * r) (2 * v * 2 ^ prec f * (2 ^ h * 2 ^ h))
+      (2 ^ low f) (pow-pos (low f)) (exact (r * r * 2 ^ low f) (n * 4 ^ suc (low f)) z ∙ whole) in
       subst (λ (x : Float). Rooted f x (h * hid f + (R + 1) / 2))
       (sym (rootOf-is f n (2 ^ low f)))
       (rounded r is (over t) (over-le t) none)

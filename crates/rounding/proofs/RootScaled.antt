@@ -2,12 +2,12 @@
 use mathlib.Core.Path.{_≡_, refl, sym, ap, ap₂, _∙_, subst}
 use mathlib.Core.Logic.{_⊎_, inl, inr}
 use Prim.Native.Nat.{ℕ, zero, suc, _+_, _-_, _*_, _/_, _%_, _^_, _≤_, _<_}
-use native.Mathlib.Nat.{le-trans, le-of-eq, le-of-lt, lt-of-lt-of-le, lt-of-le-of-lt, lt-of-not-le, not-le-of-lt, mul-le-mul-right, mul-assoc, mul-one}
+use native.Mathlib.Nat.{le-trans, le-of-eq, lt-of-lt-of-le, lt-of-le-of-lt, lt-of-not-le, not-le-of-lt, mul-le-mul-right}
 use native.Mathlib.Omega.{arith}
 use lib.Dec.{lit≤, lit<}
 use lib.Count.{leadingZeros, leading-top}
 use lib.Pow.{pow-add, pow-pos, pow-mono, shl-lt, shl-exact}
-use lib.Ieee.{Format, binary32, binary64, prec, emax, low, hid, ones}
+use lib.Ieee.{Format, binary32, binary64, prec, emax, low}
 use Rattle.rounding.specs.Root.{rootOf}
 use Rattle.rounding.specs.Steps.{Shaped, Root, Rooted, Radicand}
 use Rattle.rounding.proofs.RootLaw.{law, root-le}

@@ -2,7 +2,7 @@
 -- most the trial apart (`right`). Next to 1 the root lies half as far from 1 (`near`): that trial needs no test. Assumes nothing.
 use mathlib.Core.Path.{_≡_, refl, sym, ap, _∙_, subst}
 use Prim.Native.Nat.{ℕ, zero, suc, _+_, _-_, _*_, _/_, _%_, _^_, _≤_, _<_}
-use native.Mathlib.Nat.{mul-le-mul, mul-comm, div-lt-iff-lt-mul, le-div-iff-mul-le, mod-lt, div-add-mod'}
+use native.Mathlib.Nat.{mul-le-mul, div-lt-iff-lt-mul, le-div-iff-mul-le, mod-lt}
 use native.Mathlib.Omega.{arith}
 use mathlib.Core.Bool.{Bool, true, false, not}
 use lib.Dec.{T, ltb, ltb→lt, nltb→le}
@@ -169,7 +169,10 @@ under-one H d m j r c small h e f o lo hi =
     let v : j * H ≤ 2 * c * H = mul-le-mul lo (le H) in
     let w : 2 * c * H ≤ (j + 1) * H = mul-le-mul hi (le H) in
     let z = square H m j r c s t u g in
-    record { under = less (r * r) ((H + m) * (2 * H)) (c * H) (j * H) (c * c) r c d H z (omega arith) P a f; over = most (r * r) ((H + m) * (2 * H)) (c * H) (j * H) (c * c) r c H z (omega arith) (omega arith) f }
+    record {
+      under = less (r * r) ((H + m) * (2 * H)) (c * H) (j * H) (c * c) r c d H z (omega arith) P a f;
+      over = most (r * r) ((H + m) * (2 * H)) (c * H) (j * H) (c * c) r c H z (omega arith) (omega arith) f;
+    }
   where
     le : (x : ℕ) → x ≤ x
     le x = omega arith

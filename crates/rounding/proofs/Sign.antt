@@ -1,27 +1,26 @@
 -- A float to a whole number by its bits, the sign among them, with the format as a parameter. Assumes nothing.
 use mathlib.Core.Path.{_≡_, refl, sym, ap, ap₂, _∙_, subst}
 use mathlib.Core.Logic.{_≢_}
-use Prim.Native.Nat.{ℕ, zero, suc, _+_, _-_, _*_, _/_, _%_, _^_, _≤_, _<_}
-use native.Mathlib.Nat.{le-trans, le-of-eq, le-of-lt, lt-of-le-of-lt, mod-eq-of-lt, mul-div-cancel, mul-mod-left, div-lt-iff-lt-mul, div-add-mod', add-mod-left, zero-add}
+use Prim.Native.Nat.{ℕ, zero, suc, _+_, _-_, _*_, _/_, _%_, _^_, _<_}
+use native.Mathlib.Nat.{le-trans, le-of-eq, le-of-lt, mod-eq-of-lt, mul-div-cancel, mul-mod-left, div-lt-iff-lt-mul, div-add-mod', add-mod-left, zero-add}
 use native.Mathlib.Omega.{arith}
 use mathlib.Core.Bool.{Bool, true, false, not, cond}
-use lib.IntN.{pos}
-use lib.Dec.{T, leb, ltb, eqb, nltb→le, le→leb}
-use lib.Arith.{le→nltb, lt→nleb, lt-of-le-ne}
+use lib.Dec.{T, leb, ltb, nltb→le}
+use lib.Arith.{le→nltb, lt-of-le-ne}
 use lib.Bits.{bitAnd}
 use lib.Count.{trailingZeros}
 use lib.Pow.{pow-pos}
-use lib.Ieee.{Float, nan, inf, fin, Format, binary32, binary64, prec, emax, low, up, down, minus, odd, hid, ones, top, ofFields, ofBits, toBits, fits, isNan, nanBits, ne}
+use lib.Ieee.{Float, nan, inf, Format, binary32, binary64, prec, low, up, down, minus, odd, hid, ones, top, ofFields, ofBits, toBits, fits, isNan, nanBits, ne}
 use lib.Ieee.Digits.{odd-val}
 use lib.Ieee.Fits.{down-pos, round-fits}
-use lib.Ieee.Bits.{is-true, is-false, ofBits-toBits, nanBits-is, nanBits-above}
+use lib.Ieee.Bits.{ofBits-toBits, nanBits-is, nanBits-above}
 use lib.Ieee.Compare.{differs-from-itself}
 use Rattle.rounding.specs.Steps.{Wholes, sizeOf, wayOf}
 use Rattle.rounding.specs.Whole.{Way, ways, wholeBy, wholeOf}
 use Rattle.rounding.specs.Laws.Whole.{wholeBy-same}
 use Rattle.rounding.proofs.Fields.{ofBits-is, field-some, low-part, under-top}
 use Rattle.rounding.proofs.Words.{sign-bit}
-use Rattle.rounding.proofs.Cut.{expo, digs, Parts, parts}
+use Rattle.rounding.proofs.Cut.{expo, digs}
 
 pub nan-whole : (f : Format) (w : Bool → Way) (x : Float) → ne x x ≡ true → x ≡ wholeOf f w x
 unfolding wholeOf
@@ -41,7 +40,8 @@ is-inf f x s t e k =
     let b = toBits f x in
     sym (ofBits-toBits f x t)
     ∙ ofBits-is f b
-    ∙ ap₂ (λ (y z : ℕ). ofFields f (leb (top f) b) y z) (ap (λ (y : ℕ). y / hid f) e ∙ mul-div-cancel (ones f) (pow-pos (prec f - 1))) (sym (low-part f b) ∙ ap (λ (y : ℕ). y % hid f) e ∙ mul-mod-left (ones f) (hid f))
+    ∙ ap₂ (λ (y z : ℕ). ofFields f (leb (top f) b) y z) (ap (λ (y : ℕ). y / hid f) e ∙ mul-div-cancel (ones f) (pow-pos (prec f - 1)))
+    (sym (low-part f b) ∙ ap (λ (y : ℕ). y % hid f) e ∙ mul-mod-left (ones f) (hid f))
     ∙ inf-fields f (leb (top f) b)
     ∙ ap inf k
 
@@ -104,9 +104,12 @@ finite-odd f x s t l e =
     sym (ofBits-toBits f x t) ∙ ofBits-is f b ∙ ap₂ (λ (z : Bool) (y : ℕ). ofFields f z (b % top f / hid f) y) e (sym (low-part f b)) ∙ fields-odd f s (sized f x) l
 
 -- what was worked out of the size is the float's, with the sign put back
-pub signed : (f : Format) (w : Bool → Way) (x : Float) (s : Bool) (r : ℕ) → T (fits f x) → sized f x < ones f * hid f → leb (top f) (toBits f x) ≡ s → Wholes f s (w s) (sized f x) r → ofBits f (cond s (top f) 0 + r) ≡ wholeOf f w x
+pub signed :
+    (f : Format) (w : Bool → Way) (x : Float) (s : Bool) (r : ℕ) → T (fits f x) → sized f x < ones f * hid f → leb (top f) (toBits f x) ≡ s →
+    Wholes f s (w s) (sized f x) r → ofBits f (cond s (top f) 0 + r) ≡ wholeOf f w x
 signed f w x s r t l e h =
-    let i : wholeOf f w x ≡ wholeBy f s (w s) (sizeOf (prec f) (sized f x)) (2 ^ low f) = ap (wholeOf f w) (finite-odd f x s t l e) ∙ whole-odd f w (prec f) s (digs f (sized f x)) (expo f (sized f x)) in
+    let i : wholeOf f w x ≡ wholeBy f s (w s) (sizeOf (prec f) (sized f x)) (2 ^ low f) =
+    ap (wholeOf f w) (finite-odd f x s t l e) ∙ whole-odd f w (prec f) s (digs f (sized f x)) (expo f (sized f x)) in
     ap (ofBits f) (sym (h .value)) ∙ ofBits-toBits f (wholeBy f s (w s) (sizeOf (prec f) (sized f x)) (2 ^ low f)) (unfold wholeBy in round-fits f s _ 1) ∙ sym i
 
 -- the same by the code's steps: the sign is masked, chooses the way, and is put back

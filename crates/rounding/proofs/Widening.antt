@@ -2,7 +2,22 @@
 use mathlib.Core.Path.{_≡_, refl, sym, ap, ap₂, _∙_, subst}
 use mathlib.Core.Logic.{_⊎_, inl, inr}
 use Prim.Native.Nat.{ℕ, suc, _+_, _-_, _*_, _/_, _^_, _≤_, _<_}
-use native.Mathlib.Nat.{le-trans, le-of-eq, le-of-lt, lt-of-lt-of-le, lt-of-le-of-lt, lt-of-not-le, not-le-of-lt, zero-add, mul-assoc, mul-right-comm, mul-le-mul-right, mul-lt-mul-of-pos-right, eq-of-mul-eq-mul-right, div-add-mod'}
+use native.Mathlib.Nat.{
+  le-trans,
+  le-of-eq,
+  le-of-lt,
+  lt-of-lt-of-le,
+  lt-of-le-of-lt,
+  lt-of-not-le,
+  not-le-of-lt,
+  zero-add,
+  mul-assoc,
+  mul-right-comm,
+  mul-le-mul-right,
+  mul-lt-mul-of-pos-right,
+  eq-of-mul-eq-mul-right,
+  div-add-mod',
+}
 use native.Mathlib.Omega.{arith}
 use mathlib.Core.Bool.{Bool, true, false, not, cond}
 use lib.Dec.{T, leb, leb→le, nleb→lt, lit<}
@@ -133,11 +148,15 @@ none b e = subst (λ (y : ℕ). Widens y 0) (sym e) record { value = refl; finit
 
 -- ---- the double
 
-pub same-number : (x : Float) (s : Bool) (r : ℕ) → T (fits binary32 x) → sized binary32 x < ones binary32 * hid binary32 → leb (top binary32) (toBits binary32 x) ≡ s → Widens (sized binary32 x) r → ofBits binary64 (cond s (top binary64) 0 + r) ≡ x
+pub same-number : (x : Float) (s : Bool) (r : ℕ) → T (fits binary32 x) → sized binary32 x < ones binary32 * hid binary32 →
+    leb (top binary32) (toBits binary32 x) ≡ s → Widens (sized binary32 x) r → ofBits binary64 (cond s (top binary64) 0 + r) ≡ x
 same-number x s r t l e w =
     let b = sized binary32 x in
     let p = parts binary64 r in
-    let v : HasValue x s (sizeOf 24 b) (2 ^ low binary32) = subst (λ (y : Float). HasValue y s (sizeOf 24 b) (2 ^ low binary32)) (sym (finite-odd binary32 x s t l e)) (odd-sign (prec binary32) s (digs binary32 b) (expo binary32 b) (low binary32)) in
-    let u : HasValue x s (sizeOf 53 r) (2 ^ low binary64) = same-value x s (sizeOf 24 b) (2 ^ low binary32) (sizeOf 53 r) (2 ^ low binary64) (pow-pos (low binary32)) (rescaled (sizeOf 24 b) (sizeOf 53 r) (low binary64 - low binary32) (low binary32) (low binary64) refl (w .value)) v in
+    let v : HasValue x s (sizeOf 24 b) (2 ^ low binary32) = subst (λ (y : Float). HasValue y s (sizeOf 24 b) (2 ^ low binary32))
+    (sym (finite-odd binary32 x s t l e)) (odd-sign (prec binary32) s (digs binary32 b) (expo binary32 b) (low binary32)) in
+    let u : HasValue x s (sizeOf 53 r) (2 ^ low binary64) = same-value x s (sizeOf 24 b) (2 ^ low binary32) (sizeOf 53 r) (2 ^ low binary64)
+    (pow-pos (low binary32))
+    (rescaled (sizeOf 24 b) (sizeOf 53 r) (low binary64 - low binary32) (low binary32) (low binary64) refl (w .value)) v in
     ap (ofBits binary64) (sym (bits-of binary64 s x (digs binary64 r) (expo binary64 r) u (p .lead) (le-of-lt (p .high)) ∙ ap (λ (y : ℕ). cond s (top binary64) 0 + y) (p .sum)))
     ∙ ofBits-toBits binary64 x (fits-widens x t)

@@ -4,7 +4,7 @@ pub mod Signed
 pub mod Order
 pub mod Rounding
 pub mod Nearest
-pub mod Held
+pub mod Representable
 pub mod Sums
 pub mod Quotients
 pub mod Products

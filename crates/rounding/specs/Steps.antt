@@ -47,10 +47,10 @@ wayOf (suc zero) = half
 wayOf (suc (suc n)) = away
 
 -- what is added to a multiple of d and r, so that the whole multiples of d in it are as many as `moves` says
-abbrev pub stepOf : Way → ℕ → ℕ
-stepOf toward d = 0
-stepOf half d = d / 2
-stepOf away d = d - 1
+abbrev pub addendOf : Way → ℕ → ℕ
+addendOf toward d = 0
+addendOf half d = d / 2
+addendOf away d = d - 1
 
 -- from where on a number below one goes to one, with the numbers for a half and for one
 abbrev pub limitOf : Way → ℕ → ℕ → ℕ

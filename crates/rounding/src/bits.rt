@@ -52,7 +52,7 @@ pub fn wide(x: u32) -> usize
 }
 
 // The bits of x as the index and the printed text store them: a NaN's as 7fc00000, any zero's as 0.
-pub fn stored(x: f32) -> u32
+pub fn stored_word(x: f32) -> u32
     ensures { λ r. ⌜ r ≡ storedOf x ⌝ }
 {
     if x == 0.0 { 0 } else { bits32(x) }

@@ -4,7 +4,7 @@ ghost use mathlib.Core.Bool.{Bool, cond};
 ghost use lib.Dec.{leb};
 ghost use Prim.Native.Nat.{_+_, _-_, _*_, _^_, _≤_, _<_};
 ghost use lib.Ieee.{Format, prec, emax, binary32, binary64};
-ghost use Rattle.rounding.specs.Steps.{Shaped, wayOf, stepOf, limitOf, Wholes};
+ghost use Rattle.rounding.specs.Steps.{Shaped, wayOf, addendOf, limitOf, Wholes};
 ghost use Rattle.rounding.specs.Whole.{ways, wholeOf, floorOf, ceilOf, roundOf};
 
 // The ways are 0, toward zero; 1, to the nearest and a half away from zero; and 2, away from zero.
@@ -12,7 +12,7 @@ ghost use Rattle.rounding.specs.Whole.{ways, wholeOf, floorOf, ceilOf, r
 // What is added to a number before its digits below `unit` are cut off.
 fn step(way: u64, unit: u64) -> u64
     requires { ⌜ 2 ≤ unit ⌝ }
-    ensures { λ r. ⌜ r ≡ stepOf (wayOf way) unit ⌝ }
+    ensures { λ r. ⌜ r ≡ addendOf (wayOf way) unit ⌝ }
 {
     match way {
         0 => 0,

@@ -1,7 +1,7 @@
 // A single to a double, which holds every single, and a double to the nearest single, by the bits.
 ghost use mathlib.Core.Path.{_≡_};
 ghost use mathlib.Core.Bool.{Bool};
-ghost use Prim.Native.Nat.{_+_, _-_, _*_, _^_, _≤_, _<_};
+ghost use Prim.Native.Nat.{_+_, _-_, _^_, _≤_, _<_};
 ghost use lib.Ieee.{binary32};
 ghost use lib.Ieee.Nearest.{closest};
 ghost use Rattle.rounding.specs.Width.{narrowOf};

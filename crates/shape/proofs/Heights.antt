@@ -1,6 +1,6 @@
 -- Laws behind the height in a junction: heights of a run, lines held with 2,048 added, the place of a coordinate, and what a pass over the rows shows. Assumes nothing.
 use mathlib.Core.Path.{_≡_, refl, sym}
-use mathlib.Core.Bool.{Bool, true, false, _||_}
+use mathlib.Core.Bool.{true, false}
 use mathlib.Core.List.{List}
 use Prim.Native.Nat.{ℕ, zero, suc, _+_, _-_, _*_, _/_, _^_, _≤_, _<_, min}
 use native.Mathlib.Decide.{decLt}

@@ -17,14 +17,14 @@ use Rattle.rounding.specs.Thresholds.{milli, tenth}
 use Rattle.vector.specs.Single.{_⊕_}
 use Rattle.vector.specs.declared.coords.Point.{Point}
 use Rattle.shape.specs.declared.junction_areas.Gap.{Gap}
-use Rattle.shape.specs.declared.junction_areas.Held.{Held}
+use Rattle.shape.specs.declared.junction_areas.RingSoFar.{RingSoFar}
 use Rattle.shape.specs.declared.junction_areas.Joined.{Joined}
 use Rattle.shape.specs.declared.junction_areas.OutlineAnswer.the-variants.{Made, Refused}
 use Rattle.shape.specs.declared.refusal.Refusal.{Refusal}
 use Rattle.shape.specs.declared.refusal.Refusal.the-variants.{ShortOutput}
 use Rattle.shape.specs.Gather.{gather, any}
 use Rattle.shape.specs.Memory.{Put}
-use Rattle.shape.specs.Refusal.{Fault, fine, fault, refuse, judge, leaves, numberOf, placeOf}
+use Rattle.shape.specs.Refusal.{fine, fault, refuse, judge, leaves, numberOf, placeOf}
 use Rattle.shape.specs.Laws.Refusal.{passed, else-passed}
 use Rattle.shape.specs.Lists.{longer, uneven, pointAt, startOf, endOf, lastEnd, runBad, runOf}
 use Rattle.shape.specs.Outline.{
@@ -72,7 +72,7 @@ use Rattle.shape.specs.Outline.{
   readOutline,
   Outlines,
 }
-use Rattle.shape.specs.OutlineSteps.{Sane, Holds, Joins}
+use Rattle.shape.specs.OutlineSteps.{SoundLists, Holds, Joins}
 use Rattle.shape.specs.Laws.Gather.{gather-next, gather-fits, gather-even}
 use Rattle.shape.specs.Laws.Lists.{Sound, sound}
 use Rattle.shape.specs.Laws.Memory.{sets-append, sets-front, take-sets-front}
@@ -143,7 +143,7 @@ last-added ring p =
     let e : length (ring ++ p ∷ []) - 1 ≡ length ring = simp length-append (omega arith) in
     rw e (getD-append-seam ring p [] origin)
 
-module _ {blank m : List Float} {ring : List Point} {h : Held} (holds : Holds blank m ring h) (p : Point) where
+module _ {blank m : List Float} {ring : List Point} {h : RingSoFar} (holds : Holds blank m ring h) (p : Point) where
   pub add-new : {m′ : List Float} {q : ℕ} → isNew ring p ≡ true → Put m m′ (3 * h .count) (flat (p ∷ [])) q
       → Holds blank m′ (added ring p) (record { count = h .count + 1; last = p })
   unfolding added
@@ -160,7 +160,7 @@ module _ {blank m : List Float} {ring : List Point} {h : Held} (holds : Holds bl
   add-old e = rw e holds
 
 -- the ring's own part of the memory
-pub ring-part : {blank m : List Float} {ring : List Point} {h : Held} → Holds blank m ring h → 3 * h .count ≤ length blank → take (3 * h .count) m ≡ flat ring
+pub ring-part : {blank m : List Float} {ring : List Point} {h : RingSoFar} → Holds blank m ring h → 3 * h .count ≤ length blank → take (3 * h .count) m ≡ flat ring
 ring-part {blank} {m} {ring} {h} holds k =
     let e : 3 * h .count ≡ length (flat ring) = omega (arith, holds .many, flat-length ring) in
     rw (e, holds .front) (take-sets-front (flat ring) blank (omega arith))
@@ -279,10 +279,10 @@ module _ (ws : List ℕ) (xs blank : List Float) (k : ℕ) {m : List Float} {j :
   pub join-none : endOf 2 0 ws k ≤ startOf 2 0 ws k → Joins ws xs blank m (k + 1) j
   join-none h = let e = solid-same ws k h in record { holds = rw e (at .holds); solids = rw e (at .solids); gap = rw e (at .gap) }
 
-  pub join-more : {m′ : List Float} (s : List Float) (back : Bool) (gap : Gap) (h : Held) → k < length ws / 2 → startOf 2 0 ws k < endOf 2 0 ws k
-      → s ≡ segmentOf ws xs k → (back ≡ turnsAt ws xs (j .segments) (j .held .last)) × (gap .root ≡ gapAt ws xs (j .segments) (j .held .last) (j .gap .root))
+  pub join-more : {m′ : List Float} (s : List Float) (back : Bool) (gap : Gap) (h : RingSoFar) → k < length ws / 2 → startOf 2 0 ws k < endOf 2 0 ws k
+      → s ≡ segmentOf ws xs k → (back ≡ turnsAt ws xs (j .segments) (j .ring .last)) × (gap .root ≡ gapAt ws xs (j .segments) (j .ring .last) (j .gap .root))
       → Holds blank m′ (extended (joined ws xs (length (solid ws k)) .ring) back s (length s / 3)) h
-      → Joins ws xs blank m′ (k + 1) (record { held = h; segments = j .segments + 1; gap = gap })
+      → Joins ws xs blank m′ (k + 1) (record { ring = h; segments = j .segments + 1; gap = gap })
   unfolding joined
   join-more s back gap h n l is t w =
       let e = solid-more ws k l in
@@ -336,9 +336,9 @@ pub few-segments : (ws : List ℕ) (xs : List Float) → outlineLimits ws xs ≡
 unfolding outlineLimits
 few-segments ws xs e = ltb-false 512 (length ws) (passed (longer 2 256 ws) 1 256 _ e .0)
 
-pub sane : (ws : List ℕ) (xs : List Float) → outlineFault ws xs ≡ fine → Sane ws xs
+pub sound-lists : (ws : List ℕ) (xs : List Float) → outlineFault ws xs ≡ fine → SoundLists ws xs
 unfolding outlineFault outlineLimits outlineRagged
-sane ws xs e =
+sound-lists ws xs e =
     let limits = else-passed (outlineLimits ws xs) (outlineRagged ws xs) e in
     let long = passed (longer 2 256 ws) 1 256 _ (limits .0) in
     let pairs = passed (uneven 2 ws) 2 0 _ (limits .1) in
@@ -349,7 +349,7 @@ sane ws xs e =
       runs = passed runs 2 0 _ (pairs .1) .0;
     }
 
-module _ {ws : List ℕ} {xs : List Float} (s : Sane ws xs) (k : ℕ) (h : k < length ws / 2) where
+module _ {ws : List ℕ} {xs : List Float} (s : SoundLists ws xs) (k : ℕ) (h : k < length ws / 2) where
   pub run-sound : Sound 2 0 ws (length xs / 3) k
   run-sound = sound 2 0 ws (length xs / 3) (length ws / 2) k h (s .runs)
 
@@ -366,7 +366,7 @@ pub last-end-next : (ws : List ℕ) (k : ℕ) → lastEnd 2 0 ws (k + 1) ≡ end
 unfolding lastEnd
 last-end-next ws k = rw (add-one k)
 
-pub last-end-within : {ws : List ℕ} {xs : List Float} → Sane ws xs → (k : ℕ) → k ≤ length ws / 2 → lastEnd 2 0 ws k ≤ length xs / 3
+pub last-end-within : {ws : List ℕ} {xs : List Float} → SoundLists ws xs → (k : ℕ) → k ≤ length ws / 2 → lastEnd 2 0 ws k ≤ length xs / 3
 unfolding lastEnd
 last-end-within s zero h = omega arith
 last-end-within s (suc k) h = let r = run-sound s k (omega arith) in r .within

@@ -20,8 +20,28 @@ use Rattle.shape.specs.Memory.{Put}
 use Rattle.shape.specs.Refusal.{fine, found, numberOf, placeOf, taken, refused, judge}
 use Rattle.shape.specs.Lists.{startOf, endOf, wordOf, runLong, runOf, longer, Mesh, meshLists}
 use Rattle.shape.specs.MeshMemory.{lengthsOf, roomFault, meshRoom, leavesMesh}
-use Rattle.shape.specs.Strip.{Lane, welded, weldNext, keeps, stepOf, lastOf, keptOf, kept, noArea, ribAt, triangleOf, indicesAt, verticesOf, normalsOf, indicesOf}
-use Rattle.shape.specs.SurfaceMesh.{Given, lanesOf, laneRun, laneAt, spanOf, laneVertices, laneNormals, laneIndices, laneSpan, baseOf, indexOf, meshOf, laneLimits, laneRagged, inputFault, countsOf, callFault, readMesh, answerOf}
+use Rattle.shape.specs.Strip.{Lane, welded, weldNext, keeps, stepOf, endKept, keptOf, kept, noArea, ribAt, triangleOf, indicesAt, verticesOf, normalsOf, indicesOf}
+use Rattle.shape.specs.SurfaceMesh.{
+  Given,
+  lanesOf,
+  laneRun,
+  laneAt,
+  spanOf,
+  laneVertices,
+  laneNormals,
+  laneIndices,
+  laneSpan,
+  baseOf,
+  indexOf,
+  meshOf,
+  laneLimits,
+  laneRagged,
+  inputFault,
+  countsOf,
+  callFault,
+  readMesh,
+  answerOf,
+}
 use Rattle.shape.specs.MeshSteps.{lengthsAt, Grown, Topped, Enough, Sizes, Room, Wrote, Written, Fitting}
 use Rattle.shape.specs.Laws.Gather.{gather-next, gather-fits, gather-most}
 use Rattle.shape.specs.Laws.Memory.{put-none, put-length, put-turn, put-front}
@@ -122,8 +142,8 @@ front-few ps (suc n) =
     let w = welded ps n in
     rw length-append (omega (arith, front-few ps n, cond-few (keeps ps (w .last) (w .step) (suc n)) (w .last)))
 
-last-few : (m : ℕ) (near : Bool) (e n : ℕ) → m ≤ e → suc e ≤ n → 2 ≤ n → m + length (lastOf m near e) ≤ n
-unfolding lastOf
+last-few : (m : ℕ) (near : Bool) (e n : ℕ) → m ≤ e → suc e ≤ n → 2 ≤ n → m + length (endKept m near e) ≤ n
+unfolding endKept
 last-few zero true e n h p q = omega arith
 last-few zero false e n h p q = omega arith
 last-few (suc m) near e n h p q = omega arith

@@ -24,7 +24,7 @@ use Rattle.vector.specs.Laws.{square-least, sum-least}
 use Rattle.vector.specs.declared.coords.Point.{Point}
 use Rattle.shape.specs.declared.junction_areas.Gap.{Gap}
 use Rattle.shape.specs.Outline.{reachOf}
-use Rattle.shape.specs.OutlineSteps.{squaresBetween, rootedOf, wide, Wide, Squares, Covers}
+use Rattle.shape.specs.OutlineSteps.{squaresBetween, rootedOf, wide, Wide, Squares, GapCovers}
 
 -- ---- a root grows with its square
 
@@ -85,16 +85,16 @@ rooted-nan : rootedOf nan ≡ nan
 unfolding rootedOf
 rooted-nan = refl
 
-pub covers-more : (gap : Gap) (s r : Float) → Covers gap → T (lt (gap .squares) s) → r ≡ maxOf (gap .root) (rootedOf s) → Covers (record { root = r; squares = s })
+pub covers-more : (gap : Gap) (s r : Float) → GapCovers gap → T (lt (gap .squares) s) → r ≡ maxOf (gap .root) (rootedOf s) → GapCovers (record { root = r; squares = s })
 covers-more gap s r c h e =
     let n : T (le nought s) = le-trans nought (gap .squares) s (c .least) (le-of-lt (gap .squares) s h) in
     record { least = n; under = rw e (max-picks (gap .root) (rootedOf s) .right (rooted-num s n)) }
 
-not-above : (gap : Gap) (s : Float) → Covers gap → T (le nought s) → T (le s (gap .squares)) → maxOf (gap .root) (rootedOf s) ≡ gap .root
+not-above : (gap : Gap) (s : Float) → GapCovers gap → T (le nought s) → T (le s (gap .squares)) → maxOf (gap .root) (rootedOf s) ≡ gap .root
 not-above gap s c n h =
     max-left (gap .root) (rootedOf s) (le-trans (rootedOf s) (rootedOf (gap .squares)) (gap .root) (rooted-grows s (gap .squares) n h) (c .under))
 
-pub covers-same : (gap : Gap) (s : Float) → Covers gap → Squares s → lt (gap .squares) s ≡ false → gap .root ≡ maxOf (gap .root) (rootedOf s)
+pub covers-same : (gap : Gap) (s : Float) → GapCovers gap → Squares s → lt (gap .squares) s ≡ false → gap .root ≡ maxOf (gap .root) (rootedOf s)
 unfolding Squares
 covers-same gap nan c q h = sym (ap (maxOf (gap .root)) rooted-nan ∙ max-nan (gap .root))
 covers-same gap (inf s) c q h = sym (not-above gap (inf s) c (q tt) (le-of-not-lt (gap .squares) (inf s) (le-num-right nought (gap .squares) (c .least)) tt h))
@@ -201,6 +201,6 @@ pub own-number : (x : Float) → eq x x ≡ true → IsNum x
 own-number x e = le-num-left x x (le-of-eq x x (subst T (sym e) tt))
 
 -- no gap yet
-pub no-gap : Covers (record { root = ofBits binary32 0; squares = ofBits binary64 0 })
+pub no-gap : GapCovers (record { root = ofBits binary32 0; squares = ofBits binary64 0 })
 unfolding rootedOf ofBits le
 no-gap = record { least = tt; under = tt }

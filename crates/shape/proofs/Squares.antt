@@ -11,7 +11,30 @@ use lib.ListN.{length}
 use lib.Ieee.{Float, nan, inf, fin, le, eq, ne, neg, isNan, toSigned}
 use Rattle.rounding.specs.Laws.Order.{T-of, not-T-of, nan-of-differs}
 use Rattle.shape.specs.Double.{0d, 1d, _⊟_, _⧄_}
-use Rattle.shape.specs.Elevation.{rowOf, columnOf, rowCount, valueOf, lineOf, frameOf, coefficientsOf, surfaceOf, withHeight, squareOf, inSquare, orElse, triedAt, tried, onGrid, floored, snapOf, within, widestOf, count, coordsOf, heightOf}
+use Rattle.shape.specs.Elevation.{
+  rowOf,
+  columnOf,
+  rowCount,
+  valueOf,
+  lineOf,
+  frameOf,
+  coefficientsOf,
+  surfaceOf,
+  withHeight,
+  squareOf,
+  inSquare,
+  orSpot,
+  triedAt,
+  tried,
+  onGrid,
+  floored,
+  snapOf,
+  within,
+  widestOf,
+  count,
+  coordsOf,
+  heightOf,
+}
 use Rattle.shape.specs.ElevationSteps.{Placed, Near}
 use Rattle.shape.specs.declared.elevation.ElevationGrid.{ElevationGrid}
 use Rattle.shape.specs.declared.elevation.Spot.{Spot}
@@ -85,11 +108,11 @@ module _ (z : ℤ → ℤ → Spot) (i : ℕ) (j : ℤ) (x y : Float) (h : 0 < i
 
 module _ (f : ℤ → Float → Spot) (i : ℤ) (part : Float) where
   pub tried-first : {z : Float} → eq part 0d ≡ true → f i 0d ≡ At z → At z ≡ triedAt f i part
-  unfolding triedAt orElse
+  unfolding triedAt orSpot
   tried-first e g = rw (e, g)
 
   pub tried-second : {r : Spot} → eq part 0d ≡ true → f i 0d ≡ Missing → r ≡ f (predℤ i) 1d → r ≡ triedAt f i part
-  unfolding triedAt orElse
+  unfolding triedAt orSpot
   tried-second {r} e g k = rw (e, g) k
 
   pub tried-between : {r : Spot} → eq part 0d ≡ false → r ≡ f i part → r ≡ triedAt f i part

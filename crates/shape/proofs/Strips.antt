@@ -20,7 +20,27 @@ use Rattle.vector.specs.declared.coords.Vector.{Vector}
 use Rattle.shape.specs.declared.rib.Leg.{Leg}
 use Rattle.shape.specs.declared.rib.Rib.{Rib}
 use Rattle.shape.specs.declared.rib.Spread.{Spread}
-use Rattle.shape.specs.Strip.{Lane, keptPoint, legIn, legOut, alongOf, slopeOf, lateralOf, halfOf, spreadOf, ribAt, triangleOf, segmentOf, noArea, sixOf, upsOf, verticesAt, normalsAt, verticesOf, normalsOf}
+use Rattle.shape.specs.Strip.{
+  Lane,
+  keptPoint,
+  legIn,
+  legOut,
+  alongOf,
+  slopeOf,
+  lateralOf,
+  halfOf,
+  spreadOf,
+  ribAt,
+  triangleOf,
+  segmentOf,
+  noArea,
+  sixOf,
+  upsOf,
+  verticesAt,
+  normalsAt,
+  verticesOf,
+  normalsOf,
+}
 use Rattle.shape.specs.Laws.Gather.{gather-even}
 
 -- either of two within a bound is within it

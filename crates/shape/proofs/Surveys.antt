@@ -9,13 +9,17 @@ use native.Mathlib.Omega.{arith}
 use borrow.Author.Tests.{ltb-false, not-true, not-false}
 use lib.ListN.{length}
 use Rattle.shape.specs.Gather.{any}
-use Rattle.shape.specs.Lists.{longer, uneven, wordOf, lastEnd, runBad, runLong}
+use Rattle.shape.specs.Refusal.{fine, refuse, orElse}
+use Rattle.shape.specs.Lists.{maxRing, maxRows, longer, uneven, wordOf, lastEnd, runBad, runLong}
 use Rattle.shape.specs.Laws.Gather.{any-next, any-some, or-left, or-right}
-use Rattle.shape.specs.Elevation.{rowOf, rowCount, longest, widestOf, gridLong, gridRagged, findingOf}
-use Rattle.shape.specs.ElevationSteps.{oddRun, oddRuns, passOf, faultOf, Limits}
+use Rattle.shape.specs.Laws.Refusal.{passed, else-passed}
+use Rattle.shape.specs.Elevation.{rowOf, rowCount, longest, widestOf, gridLong, gridRagged, gridCheck}
+use Rattle.shape.specs.ElevationSteps.{oddRun, oddRuns, passOf, faultOf, limitsSeen, raggedSeen, widestSeen, Limits}
+use Rattle.shape.specs.JunctionMesh.{Ground, groundLimits, groundRagged, groundInput}
 use Rattle.shape.specs.declared.elevation.GridRow.{GridRow}
 use Rattle.shape.specs.declared.elevation.Pass.the-variants.{Odd, Sound}
-use Rattle.shape.specs.declared.elevation.Finding.the-variants.{Long, Ragged, Widest}
+use Rattle.shape.specs.declared.elevation.GridCheck.{GridCheck}
+use Rattle.shape.specs.declared.elevation.GridCheck.the-variants.{Long, Ragged, Widest}
 use Rattle.shape.proofs.Heights.{widest-few}
 
 -- ---- a pass over the rows
@@ -133,12 +137,12 @@ odd-case false false false true false n e = refl
 odd-case false false false false false n e = absurd (let z : _≡_ {A = ℕ} 0 1 = cc in omega arith)
 
 module _ (rows : List ℕ) (l r : ℕ) where
-  pub found-long : longer 6 1024 rows ≡ true → Long ≡ findingOf rows l r
-  unfolding findingOf gridLong
+  pub found-long : longer 6 1024 rows ≡ true → Long ≡ gridCheck rows l r
+  unfolding gridCheck gridLong
   found-long e = rw e
 
-  pub found-odd : longer 6 1024 rows ≡ false → Odd ≡ passOf rows l r → faultOf rows ≡ findingOf rows l r
-  unfolding findingOf gridLong gridRagged faultOf passOf oddRuns
+  pub found-odd : longer 6 1024 rows ≡ false → Odd ≡ passOf rows l r → faultOf rows ≡ gridCheck rows l r
+  unfolding gridCheck gridLong gridRagged faultOf passOf oddRuns
   found-odd e o =
       rw e
       (odd-case (any (runLong 6 2 rows 1024) (rowCount rows)) (any (runLong 6 4 rows 1024) (rowCount rows)) (any (runBad 6 2 rows l) (rowCount rows)) (any (runBad 6 4 rows r) (rowCount rows))
@@ -149,8 +153,8 @@ module _ (rows : List ℕ) (l r : ℕ) where
     unfolding passOf
     sound-runs = pass-sound (oddRuns rows l r (rowCount rows)) (widestOf rows) w (sym o)
 
-    pub found-uneven : uneven 6 rows ≡ true → Ragged ≡ findingOf rows l r
-    unfolding findingOf gridLong gridRagged oddRuns
+    pub found-uneven : uneven 6 rows ≡ true → Ragged ≡ gridCheck rows l r
+    unfolding gridCheck gridLong gridRagged oddRuns
     found-uneven u =
         let a = any (runLong 6 2 rows 1024) (rowCount rows) in
         let b = any (runLong 6 4 rows 1024) (rowCount rows) in
@@ -159,8 +163,8 @@ module _ (rows : List ℕ) (l r : ℕ) where
         let f = or-left (a || b) (c || d) (sound-runs .0) in
         rw (e, u, or-left a b f, or-right a b f)
 
-    pub found-widest : uneven 6 rows ≡ false → Widest w ≡ findingOf rows l r
-    unfolding findingOf gridLong gridRagged oddRuns
+    pub found-widest : uneven 6 rows ≡ false → Widest w ≡ gridCheck rows l r
+    unfolding gridCheck gridLong gridRagged oddRuns
     found-widest u =
         let a = any (runLong 6 2 rows 1024) (rowCount rows) in
         let b = any (runLong 6 4 rows 1024) (rowCount rows) in
@@ -188,16 +192,16 @@ is-widest false true n w e = absurd (let z : _≡_ {A = ℕ} 0 1 = cc in omega a
 is-widest false false n w e = ((refl, refl), cc)
 
 module _ (rows : List ℕ) (l r : ℕ) where
-  pub says-long : Long ≡ findingOf rows l r → gridLong rows ≡ true
-  unfolding findingOf
+  pub says-long : Long ≡ gridCheck rows l r → gridLong rows ≡ true
+  unfolding gridCheck
   says-long e = is-long (gridLong rows) (gridRagged rows l r) (widestOf rows) e
 
-  pub says-ragged : Ragged ≡ findingOf rows l r → (gridLong rows ≡ false) × (gridRagged rows l r ≡ true)
-  unfolding findingOf
+  pub says-ragged : Ragged ≡ gridCheck rows l r → (gridLong rows ≡ false) × (gridRagged rows l r ≡ true)
+  unfolding gridCheck
   says-ragged e = is-ragged (gridLong rows) (gridRagged rows l r) (widestOf rows) e
 
-  pub says-widest : (w : ℕ) → Widest w ≡ findingOf rows l r → ((gridLong rows ≡ false) × (gridRagged rows l r ≡ false)) × (w ≡ widestOf rows)
-  unfolding findingOf
+  pub says-widest : (w : ℕ) → Widest w ≡ gridCheck rows l r → ((gridLong rows ≡ false) × (gridRagged rows l r ≡ false)) × (w ≡ widestOf rows)
+  unfolding gridCheck
   says-widest w e = is-widest (gridLong rows) (gridRagged rows l r) (widestOf rows) w e
 
 -- lists that are not faulty keep the limits
@@ -210,3 +214,32 @@ limits rows most e w =
     let x : length rows ≤ 6 * 1024 = ltb-false (6 * 1024) (length rows) (or-left (longer 6 1024 rows) a f) in
     let y : widestOf rows ≤ 1024 = widest-few rows (or-right (longer 6 1024 rows) a f) (or-right (longer 6 1024 rows || a) b e) in
     record { few = omega arith; narrow = omega arith; widest = w }
+
+-- ---- a junction's input, by what was found of its grid
+
+chain : (a b x y : Bool) (w : ℕ)
+    → orElse (refuse a 1 maxRing (limitsSeen (cond x Long (cond y Ragged (Widest w))))) (refuse b 2 0 (raggedSeen 1 (cond x Long (cond y Ragged (Widest w)))))
+    ≡ orElse (refuse a 1 maxRing (refuse x 1 maxRows fine)) (refuse b 2 0 (refuse y 2 1 fine))
+unfolding orElse refuse limitsSeen raggedSeen
+chain true b x y w = refl
+chain false b true y w = refl
+chain false true false true w = refl
+chain false true false false w = refl
+chain false false false true w = refl
+chain false false false false w = refl
+
+module _ (g : Ground) {k : GridCheck} (e : k ≡ gridCheck (g .rows) (length (g .left)) (length (g .right))) where
+  pub input-seen : orElse (refuse (longer 3 maxRing (g .ring)) 1 maxRing (limitsSeen k)) (refuse (uneven 3 (g .ring)) 2 0 (raggedSeen 1 k)) ≡ groundInput g
+  unfolding groundInput groundLimits groundRagged gridCheck
+  input-seen = rw e (chain (longer 3 maxRing (g .ring)) (uneven 3 (g .ring)) (gridLong (g .rows)) (gridRagged (g .rows) (length (g .left)) (length (g .right))) (widestOf (g .rows)))
+
+  -- an input with no fault keeps the limits
+  pub input-limits : groundInput g ≡ fine → Limits (g .rows) (widestSeen k) × (length (g .ring) ≤ 3 * maxRing)
+  unfolding groundInput groundLimits groundRagged gridCheck widestSeen longer
+  input-limits h =
+      let p = else-passed (groundLimits g) (groundRagged g) h in
+      let ring = passed (longer 3 maxRing (g .ring)) 1 maxRing _ (p .0) in
+      let long = passed (gridLong (g .rows)) 1 maxRows fine (ring .1) .0 in
+      let ragged = passed (gridRagged (g .rows) (length (g .left)) (length (g .right))) 2 1 fine (passed (uneven 3 (g .ring)) 2 0 _ (p .1) .1) .0 in
+      let w : widestSeen k ≡ widestOf (g .rows) = rw (e, long, ragged) in
+      (limits (g .rows) (widestSeen k) long w, ltb-false (3 * maxRing) (length (g .ring)) (ring .0))

@@ -17,7 +17,7 @@ use Rattle.shape.specs.Double.{double, 0d, 1d, _⊟_, _⧄_}
 use Rattle.shape.specs.Gather.{gather, any}
 use Rattle.shape.specs.Lists.{longer, uneven, wordOf, lastEnd, runBad, runLong}
 use Rattle.shape.specs.Refusal.{refuse, Answer, taken, refused, judge}
-use Rattle.shape.specs.Elevation.{nth, rowOf, rowCount, columnOf, valueOf, lineOf, straightOf, slopesOf, edgeOf, firstOf, secondOf, frameOf, entryOf, mulOf, transposeOf, bicubic, coefficientsOf, powerOf, sumTo, surfaceOf, withHeight, squareOf, inSquare, orElse, triedAt, floored, tried, onGrid, snapOf, longest, widestOf, within, count, coordsOf, heightOf, gridLong, gridRagged, gridFault, heightAnswer}
+use Rattle.shape.specs.Elevation.{nth, rowOf, rowCount, columnOf, valueOf, lineOf, straightOf, slopesOf, edgeOf, firstOf, secondOf, frameOf, entryOf, mulOf, transposeOf, bicubic, coefficientsOf, powerOf, sumTo, surfaceOf, withHeight, squareOf, inSquare, orSpot, triedAt, floored, tried, onGrid, snapOf, longest, widestOf, within, count, coordsOf, heightOf, gridLong, gridRagged, gridFault, heightAnswer}
 use Rattle.shape.specs.declared.elevation.ElevationGrid.{ElevationGrid}
 use Rattle.shape.specs.declared.elevation.Spot.{Spot}
 use Rattle.shape.specs.declared.elevation.Spot.the-variants.{Missing, At}
@@ -67,7 +67,7 @@ heightCases =
     ∷ gives (heightAnswer grid (0 ∷ 0 ∷ 0 ∷ 1 ∷ 0 ∷ 0 ∷ []) (ten ∷ []) [] 0d five) Missing ∷ []
 
 pub height-cases : all heightCases ≡ true
-unfolding sameSpot gives grid rows asked heightCases all nth rowOf columnOf valueOf lineOf straightOf slopesOf edgeOf firstOf secondOf frameOf entryOf mulOf transposeOf bicubic coefficientsOf powerOf sumTo surfaceOf withHeight squareOf inSquare orElse triedAt tried onGrid snapOf longest widestOf within coordsOf heightOf gridLong gridRagged gridFault heightAnswer gather any longer uneven wordOf lastEnd runBad runLong refuse judge wholeOf absOf add sub mul div neg lt le eq isNan ofBits ofInt toBits toSigned
+unfolding sameSpot gives grid rows asked heightCases all nth rowOf columnOf valueOf lineOf straightOf slopesOf edgeOf firstOf secondOf frameOf entryOf mulOf transposeOf bicubic coefficientsOf powerOf sumTo surfaceOf withHeight squareOf inSquare orSpot triedAt tried onGrid snapOf longest widestOf within coordsOf heightOf gridLong gridRagged gridFault heightAnswer gather any longer uneven wordOf lastEnd runBad runLong refuse judge wholeOf absOf add sub mul div neg lt le eq isNan ofBits ofInt toBits toSigned
 height-cases = refl
 
 -- ---- what is turned back: a part record, a run that ends before it starts, starts before the last one's end or ends past its list, and one past its limit,
@@ -109,7 +109,7 @@ no-corner (At x) (At y) c f (inl e) = absurd (let z : _≡_ {A = ℕ} 0 1 = cc i
 no-corner (At x) (At y) c f (inr e) = rw e
 
 tried-none : (f : ℤ → Float → Spot) (at : Float) → ((i : ℤ) (x : Float) → f i x ≡ Missing) → tried f at ≡ Missing
-unfolding tried triedAt orElse
+unfolding tried triedAt orSpot
 tried-none f at h =
     let i = toSigned 63 (floored at) in
     rw (h i 0d, h (predℤ i) 1d, h i (at ⊟ floored at)) (same-either-way (eq (at ⊟ floored at) 0d) Missing refl)

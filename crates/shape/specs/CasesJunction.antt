@@ -50,5 +50,5 @@ pub junctionCases : List Bool
 junctionCases = makes (meshed (Present grid) 24) 24 ∷ makes (meshed Absent 6) 6 ∷ []
 
 pub junction-cases : all junctionCases ≡ true
-unfolding ofBits ofFields odd sub mul add div neg le lt isNan sum round units span climb size toUnsigned root.sqrtOf root.rootOf whole.wholeOf whole.wholeBy extremes.first extremes.maxOf extremes.clampOf coords.pointSub coords.dotOf coords.lengthSquaredOf coords.lengthOf coords.distanceOf gather any pointAt longer uneven gridLong gridRagged refuse orElse judge ears.cross ears.inside ears.turnsLeft ears.blocks ears.earOf ears.isEar least ears.firstEar ears.earAt ears.without ears.lastEar ears.cutEars ears.upTo earsOf mesh.longestOf mesh.partsOf mesh.earCut mesh.cornersOf mesh.cellOf mesh.rowOf mesh.splitOf mesh.earMesh mesh.earsMesh mesh.groundVertices mesh.meshVertices mesh.normalsOf mesh.groundNormals mesh.meshNormals mesh.meshIndices mesh.groundMesh mesh.groundLimits mesh.groundRagged mesh.groundInput memory.resultLimits memory.resultShort memory.roomFault mesh.stepOf groundResult groundAnswer grid makes junctionCases all
+unfolding ofBits ofFields odd sub mul add div neg le lt isNan sum round units span climb size toUnsigned root.sqrtOf root.rootOf whole.wholeOf whole.wholeBy extremes.first extremes.maxOf extremes.clampOf coords.pointSub coords.dotOf coords.lengthSquaredOf coords.lengthOf coords.distanceOf gather any pointAt longer uneven gridLong gridRagged refuse orElse judge ears.cross ears.inside ears.turnsLeft ears.blocks ears.earOf ears.isEar least ears.firstEar ears.earAt ears.without ears.lastEar ears.cutEars ears.upTo earsOf mesh.longestOf mesh.partsOf mesh.earCut mesh.cornerCoords mesh.cellOf mesh.rowOf mesh.splitOf mesh.earMesh mesh.earsMesh mesh.groundVertices mesh.meshVertices mesh.faceNormals mesh.groundNormals mesh.meshNormals mesh.meshIndices mesh.groundMesh mesh.groundLimits mesh.groundRagged mesh.groundInput memory.resultLimits memory.resultShort memory.roomFault mesh.spacingOf groundResult groundAnswer grid makes junctionCases all
 junction-cases = refl

@@ -62,5 +62,5 @@ stripCases =
     ∷ []
 
 pub strip-cases : all stripCases ≡ true
-unfolding same all Ieee.ofBits Ieee.toBits Ieee.ofFields Ieee.odd Ieee.add Ieee.sub Ieee.mul Ieee.div Ieee.neg Ieee.lt Ieee.le Ieee.eq Ieee.sum Ieee.round Ieee.units Ieee.span Ieee.climb Ieee.size Ieee.isNan trailingZeros Root.rootIn Root.isqrt Root.rootOf Root.sqrtOf Extremes.first Extremes.minOf Extremes.maxOf Extremes.clampOf Extremes.absOf Coords.pointSub Coords.pointAdd Coords.pointSubVector Coords.vectorAdd Coords.vectorSub Coords.vectorMul Coords.vectorNeg Coords.dotOf Coords.crossOf Coords.lengthSquaredOf Coords.lengthOf Coords.distanceOf Coords.zeroVector Coords.upVector Coords.normalizeOr Coords.normalizeOrZero Coords.isZero Coords.turnedOf Coords.rotateAbout Coords.allFinite Coords.pointFinite Coords.vectorFinite Geometry.horizontalOf Geometry.leftNormalOf Gather.gather Gather.any Refusal.numberOf Refusal.placeOf Refusal.found Refusal.refuse Refusal.orElse Refusal.judge Refusal.leaves Lists.longer Lists.uneven Lists.pointAt Lists.vectorAt Lists.wordOf Lists.lastEnd Lists.runBad Lists.runLong Lists.runOf Lists.meshFault Strip.stepOf Strip.keepsStep Strip.keeps Strip.weldNext Strip.welded Strip.lastOf Strip.keptOf Strip.kept Strip.keptPoint Strip.legOf Strip.noLeg Strip.legIn Strip.legOut Strip.alongOf Strip.gradeOf Strip.slopeOf Strip.lateralOf Strip.halfOf Strip.shorterOf Strip.eatSquareOf Strip.eatOf Strip.pinches Strip.innerOf Strip.turnsLeft Strip.spreadOf Strip.ribAt Strip.sixOf Strip.upsOf Strip.noArea Strip.triangleOf Strip.segmentOf Strip.verticesOf Strip.normalsOf Strip.indicesOf SurfaceMesh.laneRun SurfaceMesh.laneAt SurfaceMesh.laneLimits SurfaceMesh.runsRagged SurfaceMesh.laneRagged SurfaceMesh.inputFault SurfaceMesh.laneVertices SurfaceMesh.laneNormals SurfaceMesh.laneIndices SurfaceMesh.spanOf SurfaceMesh.laneSpan SurfaceMesh.meshOf SurfaceMesh.countsOf SurfaceMesh.readMesh SurfaceMesh.callFault SurfaceMesh.answerOf MeshMemory.resultLimits MeshMemory.resultShort MeshMemory.roomFault
+unfolding same all Ieee.ofBits Ieee.toBits Ieee.ofFields Ieee.odd Ieee.add Ieee.sub Ieee.mul Ieee.div Ieee.neg Ieee.lt Ieee.le Ieee.eq Ieee.sum Ieee.round Ieee.units Ieee.span Ieee.climb Ieee.size Ieee.isNan trailingZeros Root.rootIn Root.isqrt Root.rootOf Root.sqrtOf Extremes.first Extremes.minOf Extremes.maxOf Extremes.clampOf Extremes.absOf Coords.pointSub Coords.pointAdd Coords.pointSubVector Coords.vectorAdd Coords.vectorSub Coords.vectorMul Coords.vectorNeg Coords.dotOf Coords.crossOf Coords.lengthSquaredOf Coords.lengthOf Coords.distanceOf Coords.zeroVector Coords.upVector Coords.normalizeOr Coords.normalizeOrZero Coords.isZero Coords.turnedOf Coords.rotateAbout Coords.allFinite Coords.pointFinite Coords.vectorFinite Geometry.horizontalOf Geometry.leftNormalOf Gather.gather Gather.any Refusal.numberOf Refusal.placeOf Refusal.found Refusal.refuse Refusal.orElse Refusal.judge Refusal.leaves Lists.longer Lists.uneven Lists.pointAt Lists.vectorAt Lists.wordOf Lists.lastEnd Lists.runBad Lists.runLong Lists.runOf Lists.meshFault Strip.stepOf Strip.keepsStep Strip.keeps Strip.weldNext Strip.welded Strip.endKept Strip.keptOf Strip.kept Strip.keptPoint Strip.legOf Strip.noLeg Strip.legIn Strip.legOut Strip.alongOf Strip.gradeOf Strip.slopeOf Strip.lateralOf Strip.halfOf Strip.shorterOf Strip.eatSquareOf Strip.eatOf Strip.pinches Strip.innerOf Strip.turnsLeft Strip.spreadOf Strip.ribAt Strip.sixOf Strip.upsOf Strip.noArea Strip.triangleOf Strip.segmentOf Strip.verticesOf Strip.normalsOf Strip.indicesOf SurfaceMesh.laneRun SurfaceMesh.laneAt SurfaceMesh.laneLimits SurfaceMesh.runsRagged SurfaceMesh.laneRagged SurfaceMesh.inputFault SurfaceMesh.laneVertices SurfaceMesh.laneNormals SurfaceMesh.laneIndices SurfaceMesh.spanOf SurfaceMesh.laneSpan SurfaceMesh.meshOf SurfaceMesh.countsOf SurfaceMesh.readMesh SurfaceMesh.callFault SurfaceMesh.answerOf MeshMemory.resultLimits MeshMemory.resultShort MeshMemory.roomFault
 strip-cases = refl

@@ -1,14 +1,14 @@
 -- Document 01, "Junction triangles": the ears of a ring in plan, and the call that cuts them. Definitions only. Assumes nothing.
 use mathlib.Core.Bool.{Bool, cond, not, _&&_}
 use mathlib.Core.List.{List, [], _∷_, _++_}
-use Prim.Native.Nat.{ℕ, zero, suc, _+_, _-_, _*_, _/_, _%_}
+use Prim.Native.Nat.{ℕ, zero, suc, _+_, _-_, _/_, _%_}
 use lib.Dec.{ltb, eqb}
 use lib.Ieee.{Float, le, lt}
 use lib.ListN.{length, getD, take, drop}
 use Rattle.vector.specs.Single.{_⊖_, _⊗_, 0f}
 use Rattle.vector.specs.declared.coords.Point.{Point}
 use Rattle.shape.specs.Gather.{gather, any, least}
-use Rattle.shape.specs.Lists.{pointAt, longer, uneven}
+use Rattle.shape.specs.Lists.{maxRing, pointAt, longer, uneven}
 use Rattle.shape.specs.Refusal.{Fault, fine, refuse, Answer, taken, refused, judge, numberOf, placeOf}
 use Rattle.shape.specs.declared.ears.EarAnswer.{EarAnswer}
 use Rattle.shape.specs.declared.ears.EarAnswer.the-variants.{Count, Refused}
@@ -106,7 +106,7 @@ earsOf ring = cutEars ring (length ring / 3 - 3) (upTo (length ring / 3))
 -- the ring is list 0, with a limit of 1,024 points
 unfoldable pub ringFault : List Float → Fault
 unfolding refuse longer uneven
-ringFault ring = refuse (longer 3 1024 ring) 1 1024 (refuse (uneven 3 ring) 2 0 fine)
+ringFault ring = refuse (longer 3 maxRing ring) 1 maxRing (refuse (uneven 3 ring) 2 0 fine)
 
 -- with room for that many numbers: how many ears
 unfoldable pub earsAnswer : List Float → ℕ → Answer ℕ

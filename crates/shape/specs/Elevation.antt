@@ -11,15 +11,15 @@ use Rattle.rounding.specs.Whole.{floorOf, roundOf}
 use Rattle.rounding.specs.Extremes.{absOf}
 use Rattle.shape.specs.Double.{_⊞_, _⊟_, _⊠_, _⧄_, double, 0d, 1d, 2d, 3d, 6d, -1d, -2d, -3d}
 use Rattle.shape.specs.Gather.{gather, any}
-use Rattle.shape.specs.Lists.{longer, uneven, wordOf, startOf, endOf, runBad, runLong}
+use Rattle.shape.specs.Lists.{maxRows, maxSide, longer, uneven, wordOf, startOf, endOf, runBad, runLong}
 use Rattle.shape.specs.Refusal.{Fault, fine, refuse, Answer, taken, refused, judge, numberOf, placeOf}
 use Rattle.shape.specs.declared.elevation.ElevationGrid.{ElevationGrid}
 use Rattle.shape.specs.declared.elevation.Elevation.{Elevation}
 use Rattle.shape.specs.declared.elevation.Elevation.the-variants.{Height, None, Refused}
 use Rattle.shape.specs.declared.elevation.Spot.{Spot}
 use Rattle.shape.specs.declared.elevation.Spot.the-variants.{Missing, At}
-use Rattle.shape.specs.declared.elevation.Finding.{Finding}
-use Rattle.shape.specs.declared.elevation.Finding.the-variants.{Long, Ragged, Widest}
+use Rattle.shape.specs.declared.elevation.GridCheck.{GridCheck}
+use Rattle.shape.specs.declared.elevation.GridCheck.the-variants.{Long, Ragged, Widest}
 use Rattle.shape.specs.declared.elevation.Run.{Run}
 use Rattle.shape.specs.declared.elevation.GridRow.{GridRow}
 use Rattle.shape.specs.declared.elevation.Line.{Line}
@@ -182,13 +182,13 @@ inSquare z i x j y = squareOf (lineOf (z (predℤ i)) j) (lineOf (z i) j) (lineO
 -- ---- the squares that are tried
 
 -- the first that is there
-unfoldable pub orElse : Spot → Spot → Spot
-orElse Missing b = b
-orElse (At z) b = At z
+unfoldable pub orSpot : Spot → Spot → Spot
+orSpot Missing b = b
+orSpot (At z) b = At z
 
 -- "At a whole number the square above is tried first, then the one below": f i x is the height at x between the lines i and i + 1, and the place is `part` past the line i
 unfoldable pub triedAt : (ℤ → Float → Spot) → ℤ → Float → Spot
-triedAt f i part = cond (eq part 0d) (orElse (f i 0d) (f (predℤ i) 1d)) (f i part)
+triedAt f i part = cond (eq part 0d) (orSpot (f i 0d) (f (predℤ i) 1d)) (f i part)
 
 abbrev pub floored : Float → Float
 floored at = floorOf binary64 at
@@ -248,19 +248,19 @@ locateOf g x y =
 
 -- "grid 1,024 rows, 1,024 a side": more records, a part one counted, then a left run, then a right run past it
 unfoldable pub gridLong : List ℕ → Bool
-gridLong rows = (longer 6 1024 rows || any (runLong 6 2 rows 1024) (rowCount rows)) || any (runLong 6 4 rows 1024) (rowCount rows)
+gridLong rows = (longer 6 maxRows rows || any (runLong 6 2 rows maxSide) (rowCount rows)) || any (runLong 6 4 rows maxSide) (rowCount rows)
 
 -- a part record, then a ragged left run of l heights, then a right one of r
 unfoldable pub gridRagged : List ℕ → ℕ → ℕ → Bool
 gridRagged rows l r = (uneven 6 rows || any (runBad 6 2 rows l) (rowCount rows)) || any (runBad 6 4 rows r) (rowCount rows)
 
--- every fault past a limit has the place 1,024, and every ragged one the list of rows
+-- the limits of rows and of a side are one number, 1,024, so every fault past a limit has that place, and every ragged one the list of rows
 unfoldable pub gridFault : List ℕ → ℕ → ℕ → Fault
-gridFault rows l r = refuse (gridLong rows) 1 1024 (refuse (gridRagged rows l r) 2 0 fine)
+gridFault rows l r = refuse (gridLong rows) 1 maxRows (refuse (gridRagged rows l r) 2 0 fine)
 
 -- the fault, or what the height needs to know of lists without one
-unfoldable pub findingOf : List ℕ → ℕ → ℕ → Finding
-findingOf rows l r = cond (gridLong rows) Long (cond (gridRagged rows l r) Ragged (Widest (widestOf rows)))
+unfoldable pub gridCheck : List ℕ → ℕ → ℕ → GridCheck
+gridCheck rows l r = cond (gridLong rows) Long (cond (gridRagged rows l r) Ragged (Widest (widestOf rows)))
 
 -- the paper's values of an answer: a height or none, or the refusal's number and place
 unfoldable pub answered : Elevation → Answer Spot

@@ -24,7 +24,7 @@ use Rattle.shape.specs.declared.junction.JunctionAnswer.the-variants.{Ma
 use Rattle.shape.specs.declared.elevation.Spot.{Spot}
 use Rattle.shape.specs.declared.elevation.Spot.the-variants.{Missing, At}
 use Rattle.shape.specs.Refusal.{Fault, fine, refuse, orElse, Answer, taken, refused, judge, numberOf, placeOf}
-use Rattle.shape.specs.Lists.{pointAt, longer, uneven, Mesh}
+use Rattle.shape.specs.Lists.{maxRing, maxRows, pointAt, longer, uneven, Mesh}
 use Rattle.shape.specs.MeshMemory.{meshRoom}
 use Rattle.shape.specs.Elevation.{gridLong, gridRagged, heightOf, locateOf}
 use Rattle.shape.specs.Ears.{upTo, earsOf}
@@ -77,15 +77,15 @@ faceOf a b c =
     cond (lt (v .z) 0f) (vectorMul v (neg 1f)) v
 
 -- what a triangle adds to the vertices, and to the normals
-unfoldable pub cornersOf : Point → Point → Point → List Float
-cornersOf a b c = a .x ∷ a .y ∷ a .z ∷ b .x ∷ b .y ∷ b .z ∷ c .x ∷ c .y ∷ c .z ∷ []
+unfoldable pub cornerCoords : Point → Point → Point → List Float
+cornerCoords a b c = a .x ∷ a .y ∷ a .z ∷ b .x ∷ b .y ∷ b .z ∷ c .x ∷ c .y ∷ c .z ∷ []
 
 abbrev pub thrice : Vector → List Float
 thrice v = v .x ∷ v .y ∷ v .z ∷ v .x ∷ v .y ∷ v .z ∷ v .x ∷ v .y ∷ v .z ∷ []
 
-unfoldable pub normalsOf : Point → Point → Point → List Float
+unfoldable pub faceNormals : Point → Point → Point → List Float
 unfolding faceOf
-normalsOf a b c = thrice (faceOf a b c)
+faceNormals a b c = thrice (faceOf a b c)
 
 -- what f makes of the triangles of an ear whose lattice has the points `at i j`: along each row in turn, that from (i, j) and then, but at the row's end,
 -- the one beyond it
@@ -117,11 +117,11 @@ earsMesh f lift step ring ears = gather (λ k. earMesh f lift (earCut step ring 
 
 unfoldable pub groundVertices : (Point → Point) → Float → List Float → List Float
 unfolding earsMesh
-groundVertices lift step ring = earsMesh cornersOf lift step ring (earsOf ring)
+groundVertices lift step ring = earsMesh cornerCoords lift step ring (earsOf ring)
 
 unfoldable pub groundNormals : (Point → Point) → Float → List Float → List Float
 unfolding earsMesh
-groundNormals lift step ring = earsMesh normalsOf lift step ring (earsOf ring)
+groundNormals lift step ring = earsMesh faceNormals lift step ring (earsOf ring)
 
 -- ---- how many
 
@@ -130,12 +130,12 @@ sumOf f zero = 0
 sumOf f (suc n) = sumOf f n + f n
 
 -- "n times n triangles" of each ear, three vertices each
-unfoldable pub verticesOf : Float → List Float → List ℕ → ℕ → ℕ
-verticesOf step ring ears k = let n = earCut step ring ears k .n in 3 * (n * n)
+unfoldable pub earVertices : Float → List Float → List ℕ → ℕ → ℕ
+earVertices step ring ears k = let n = earCut step ring ears k .n in 3 * (n * n)
 
 unfoldable pub vertexCount : Float → List Float → List ℕ → ℕ
 unfolding sumOf
-vertexCount step ring ears = sumOf (verticesOf step ring ears) (length ears / 3)
+vertexCount step ring ears = sumOf (earVertices step ring ears) (length ears / 3)
 
 -- the lengths of a mesh of so many vertices
 abbrev pub groundLengths : ℕ → Lengths
@@ -144,18 +144,18 @@ groundLengths many = record { vertices = 3 * many; normals = 3 * many; indices =
 -- ---- the grid
 
 -- "no grid counts as spacing infinity"
-unfoldable pub stepOf : JunctionGrid → Float
-stepOf Absent = inf false
-stepOf (Present g) = g .spacing
+unfoldable pub spacingOf : JunctionGrid → Float
+spacingOf Absent = inf false
+spacingOf (Present g) = g .spacing
 
 -- a point at a height that may be missing, narrowed
-unfoldable pub stood : Point → Spot → Point
-stood p Missing = p
-stood p (At z) = record { x = p .x; y = p .y; z = narrowOf binary32 z }
+unfoldable pub raisedTo : Point → Spot → Point
+raisedTo p Missing = p
+raisedTo p (At z) = record { x = p .x; y = p .y; z = narrowOf binary32 z }
 
 unfoldable pub liftOf : JunctionGrid → List ℕ → List Float → List Float → Point → Point
 liftOf Absent rows left right p = p
-liftOf (Present g) rows left right p = let at = locateOf g (p .x) (p .y) in stood p (heightOf g rows left right (at .s) (at .t))
+liftOf (Present g) rows left right p = let at = locateOf g (p .x) (p .y) in raisedTo p (heightOf g rows left right (at .s) (at .t))
 
 -- ---- the call: ring 0, rows 1, left 2, right 3
 
@@ -173,10 +173,10 @@ abbrev pub lifter : Ground → Point → Point
 lifter g = liftOf (g .grid) (g .rows) (g .left) (g .right)
 
 unfoldable pub meshVertices : Ground → List Float
-meshVertices g = groundVertices (lifter g) (stepOf (g .grid)) (g .ring)
+meshVertices g = groundVertices (lifter g) (spacingOf (g .grid)) (g .ring)
 
 unfoldable pub meshNormals : Ground → List Float
-meshNormals g = groundNormals (lifter g) (stepOf (g .grid)) (g .ring)
+meshNormals g = groundNormals (lifter g) (spacingOf (g .grid)) (g .ring)
 
 -- each triangle has its own vertices, so the indices are the vertices' numbers
 unfoldable pub meshIndices : Ground → List ℕ
@@ -188,7 +188,7 @@ groundMesh g = record { vertices = meshVertices g; normals = meshNormals g; indi
 
 -- the refusals of the input: the ring's limit and the grid's, then the ring not in threes and the grid's rows ragged
 unfoldable pub groundLimits : Ground → Fault
-groundLimits g = refuse (longer 3 1024 (g .ring)) 1 1024 (refuse (gridLong (g .rows)) 1 1024 fine)
+groundLimits g = refuse (longer 3 maxRing (g .ring)) 1 maxRing (refuse (gridLong (g .rows)) 1 maxRows fine)
 
 unfoldable pub groundRagged : Ground → Fault
 groundRagged g = refuse (uneven 3 (g .ring)) 2 0 (refuse (gridRagged (g .rows) (length (g .left)) (length (g .right))) 2 1 fine)

@@ -13,6 +13,39 @@ use Rattle.vector.specs.declared.coords.Vector.{Vector}
 use Rattle.shape.specs.Gather.{any}
 use Rattle.shape.specs.Refusal.{Fault, fine, refuse, orElse}
 
+-- ---- "Limits: lane 4,096 points, tangents, widths or banks (in that order), 1,024 lanes; boundary 256 segments, 4,096 points; ring to clip 1,024; grid 1,024
+-- rows, 1,024 a side; mesh 65,536 vertices, 65,536 normals, 196,608 indices, 1,024 spans"
+
+abbrev pub maxLanePoints : ℕ
+maxLanePoints = 4096
+
+abbrev pub maxLanes : ℕ
+maxLanes = 1024
+
+abbrev pub maxSegments : ℕ
+maxSegments = 256
+
+abbrev pub maxBoundaryPoints : ℕ
+maxBoundaryPoints = 4096
+
+abbrev pub maxRing : ℕ
+maxRing = 1024
+
+abbrev pub maxRows : ℕ
+maxRows = 1024
+
+abbrev pub maxSide : ℕ
+maxSide = 1024
+
+abbrev pub maxVertices : ℕ
+maxVertices = 65536
+
+abbrev pub maxIndices : ℕ
+maxIndices = 196608
+
+abbrev pub maxSpans : ℕ
+maxSpans = 1024
+
 -- ---- elements of u numbers
 
 -- more than `limit` of them, a part one counted
@@ -79,15 +112,25 @@ pub record Mesh : Type 0 where
 abbrev pub meshLists : List Float → List Float → List ℕ → List ℕ → Mesh
 meshLists v n i s = record { vertices = v; normals = n; indices = i; spans = s }
 
+-- the words of a span, and where its two runs start
+abbrev pub spanWords : ℕ
+spanWords = 5
+
+abbrev pub verticesWord : ℕ
+verticesWord = 1
+
+abbrev pub indicesWord : ℕ
+indicesWord = 3
+
 -- "order: 1 for input, 2": its limits first, and then what is ragged
 
 unfoldable pub meshLimits : Mesh → Fault
 unfolding refuse longer
 meshLimits m =
-    refuse (longer 3 65536 (m .vertices)) 1 65536
-    (refuse (longer 3 65536 (m .normals)) 1 65536
-    (refuse (longer 1 196608 (m .indices)) 1 196608
-    (refuse (longer 5 1024 (m .spans)) 1 1024 fine)))
+    refuse (longer 3 maxVertices (m .vertices)) 1 maxVertices
+    (refuse (longer 3 maxVertices (m .normals)) 1 maxVertices
+    (refuse (longer 1 maxIndices (m .indices)) 1 maxIndices
+    (refuse (longer spanWords maxSpans (m .spans)) 1 maxSpans fine)))
 
 -- p is the position of the mesh's first list in the call
 unfoldable pub meshRagged : ℕ → Mesh → Fault
@@ -95,9 +138,9 @@ unfolding refuse uneven any runBad
 meshRagged p m =
     refuse (uneven 3 (m .vertices)) 2 p
     (refuse (uneven 3 (m .normals)) 2 (p + 1)
-    (refuse (uneven 5 (m .spans)) 2 (p + 3)
-    (refuse (any (runBad 5 1 (m .spans) (length (m .vertices) / 3)) (length (m .spans) / 5)) 2 (p + 3)
-    (refuse (any (runBad 5 3 (m .spans) (length (m .indices))) (length (m .spans) / 5)) 2 (p + 3) fine))))
+    (refuse (uneven spanWords (m .spans)) 2 (p + 3)
+    (refuse (any (runBad spanWords verticesWord (m .spans) (length (m .vertices) / 3)) (length (m .spans) / spanWords)) 2 (p + 3)
+    (refuse (any (runBad spanWords indicesWord (m .spans) (length (m .indices))) (length (m .spans) / spanWords)) 2 (p + 3) fine))))
 
 unfoldable pub meshFault : Mesh → Fault
 unfolding orElse meshLimits meshRagged

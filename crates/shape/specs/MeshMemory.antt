@@ -1,11 +1,11 @@
 -- Document 01, "When a call is turned back" and "Limits", for the calls that make a mesh: a mesh as the result and as the lent memory, when the result has no
 -- room, and what the answer leaves. Definitions only. Assumes nothing.
-use Prim.Native.Nat.{ℕ, _*_}
+use Prim.Native.Nat.{_*_}
 use lib.Dec.{ltb}
 use lib.ListN.{length}
 use Rattle.shape.specs.declared.memory.Lengths.{Lengths}
 use Rattle.shape.specs.Refusal.{Fault, fine, refuse, orElse, Answer, leaves}
-use Rattle.shape.specs.Lists.{Mesh}
+use Rattle.shape.specs.Lists.{maxVertices, maxIndices, maxSpans, spanWords, Mesh}
 
 -- how long the lists of a mesh are, in their elements
 abbrev pub lengthsOf : Mesh → Lengths
@@ -14,10 +14,10 @@ lengthsOf m = record { vertices = length (m .vertices); normals = length (m .nor
 -- "oversize" of a result: 65,536 vertices, 65,536 normals, 196,608 indices, 1,024 spans
 unfoldable pub resultLimits : Lengths → Fault
 resultLimits made =
-    refuse (ltb (3 * 65536) (made .vertices)) 1 65536
-    (refuse (ltb (3 * 65536) (made .normals)) 1 65536
-    (refuse (ltb 196608 (made .indices)) 1 196608
-    (refuse (ltb (5 * 1024) (made .spans)) 1 1024 fine)))
+    refuse (ltb (3 * maxVertices) (made .vertices)) 1 maxVertices
+    (refuse (ltb (3 * maxVertices) (made .normals)) 1 maxVertices
+    (refuse (ltb maxIndices (made .indices)) 1 maxIndices
+    (refuse (ltb (spanWords * maxSpans) (made .spans)) 1 maxSpans fine)))
 
 -- "short output", with the count wanted in the output's elements
 unfoldable pub resultShort : Lengths → Lengths → Fault

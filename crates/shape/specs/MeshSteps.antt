@@ -11,9 +11,9 @@ use Rattle.shape.specs.declared.rib.Walk.{Walk}
 use Rattle.shape.specs.declared.strip.At.{At}
 use Rattle.shape.specs.Gather.{gather}
 use Rattle.shape.specs.Memory.{Put}
-use Rattle.shape.specs.Lists.{startOf, endOf}
+use Rattle.shape.specs.Lists.{maxLanePoints, maxVertices, maxIndices, spanWords, startOf, endOf}
 use Rattle.shape.specs.Strip.{Lane, kept, legOut, ribAt, verticesOf, normalsOf, indicesOf}
-use Rattle.shape.specs.SurfaceMesh.{Given, laneVertices, laneNormals, laneIndices, laneSpan, spanOf}
+use Rattle.shape.specs.SurfaceMesh.{laneWords, pointsWord, Given, laneVertices, laneNormals, laneIndices, laneSpan, spanOf}
 
 -- ---- ribs
 
@@ -41,17 +41,17 @@ pub record Grown (l : Lane) (at r : At) : Type 0 where
   pub word : (id v v′ i i′ : ℕ) → r .word ≡ at .word + length (spanOf (length (kept l)) id v v′ i i′)
   pub few-floats : r .floats ≤ at .floats + 24576
   pub few-index : r .index ≤ at .index + 24576
-  pub few-words : r .word ≤ at .word + 5
+  pub few-words : r .word ≤ at .word + spanWords
 
 -- the most that lane k can add to the sizes `at`, which gives r: n ribs, a rib for each point or two
 pub record Topped (ls : List ℕ) (k : ℕ) (at r : At) : Type 0 where
   pub ribs : ℕ
-  pub enough : endOf 10 1 ls k - startOf 10 1 ls k ≤ ribs
+  pub enough : endOf laneWords pointsWord ls k - startOf laneWords pointsWord ls k ≤ ribs
   pub two : 2 ≤ ribs
-  pub few : ribs ≤ 4096
+  pub few : ribs ≤ maxLanePoints
   pub floats : r .floats ≡ at .floats + 6 * ribs
   pub index : r .index ≡ at .index + 6 * (ribs - 1)
-  pub word : r .word ≡ at .word + 5
+  pub word : r .word ≡ at .word + spanWords
 
 -- the mesh of the first n lanes is within the sizes r
 pub record Enough (g : Given) (n : ℕ) (r : At) : Type 0 where
@@ -71,8 +71,8 @@ pub record Room (l : Lane) (at : At) (v n : List Float) (i s : List ℕ) : Type 
   pub normals : at .floats + length (verticesOf l (kept l)) ≤ length n
   pub indices : at .index + length (indicesOf (at .floats / 3) l (kept l)) ≤ length i
   pub spans : (id a b d e : ℕ) → at .word + length (spanOf (length (kept l)) id a b d e) ≤ length s
-  pub few-floats : at .floats + length (verticesOf l (kept l)) ≤ 196608
-  pub few-index : at .index + length (indicesOf (at .floats / 3) l (kept l)) ≤ 196608
+  pub few-floats : at .floats + length (verticesOf l (kept l)) ≤ 3 * maxVertices
+  pub few-index : at .index + length (indicesOf (at .floats / 3) l (kept l)) ≤ maxIndices
 
 -- the strip of a lane stands in the memory from `at` to r
 pub record Wrote (l : Lane) (id : ℕ) (at r : At) (v v′ n n′ : List Float) (i i′ s s′ : List ℕ) : Type 0 where
@@ -94,5 +94,5 @@ pub record Fitting (g : Given) (k : ℕ) (v n : List Float) (i s : List ℕ) : T
   pub normals : length (gather (laneVertices g) k) ≤ length n
   pub indices : length (gather (laneIndices g) k) ≤ length i
   pub spans : length (gather (laneSpan g) k) ≤ length s
-  pub few-floats : length (gather (laneVertices g) k) ≤ 196608
-  pub few-index : length (gather (laneIndices g) k) ≤ 196608
+  pub few-floats : length (gather (laneVertices g) k) ≤ 3 * maxVertices
+  pub few-index : length (gather (laneIndices g) k) ≤ maxIndices

@@ -16,7 +16,7 @@ use Rattle.shape.specs.declared.junction_areas.OutlineAnswer.{OutlineAns
 use Rattle.shape.specs.declared.junction_areas.OutlineAnswer.the-variants.{Made, Refused}
 use Rattle.shape.specs.Gather.{gather, any}
 use Rattle.shape.specs.Refusal.{Fault, fine, refuse, orElse, Answer, taken, refused, judge, leaves, numberOf, placeOf}
-use Rattle.shape.specs.Lists.{longer, uneven, pointAt, startOf, endOf, runBad, runOf}
+use Rattle.shape.specs.Lists.{maxSegments, maxBoundaryPoints, longer, uneven, pointAt, startOf, endOf, runBad, runOf}
 
 -- ---- distances, in x and y
 
@@ -223,7 +223,7 @@ outlineOf ws xs =
 
 unfoldable pub outlineLimits : List ℕ → List Float → Fault
 unfolding refuse longer
-outlineLimits ws xs = refuse (longer 2 256 ws) 1 256 (refuse (longer 3 4096 xs) 1 4096 fine)
+outlineLimits ws xs = refuse (longer 2 maxSegments ws) 1 maxSegments (refuse (longer 3 maxBoundaryPoints xs) 1 maxBoundaryPoints fine)
 
 unfoldable pub outlineRagged : List ℕ → List Float → Fault
 unfolding refuse uneven any runBad

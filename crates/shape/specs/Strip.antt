@@ -99,14 +99,14 @@ welded ps (suc n) = weldNext ps (welded ps n) (suc n)
 
 -- "the final point replaces the last kept": the final point e, after the m points kept before the last. "One point kept: the lane is
 -- skipped if its ends lie under 1e-6 apart"; otherwise it has both ends.
-unfoldable pub lastOf : ℕ → Bool → ℕ → List ℕ
-lastOf zero near e = cond near [] (0 ∷ e ∷ [])
-lastOf (suc m) near e = e ∷ []
+unfoldable pub endKept : ℕ → Bool → ℕ → List ℕ
+endKept zero near e = cond near [] (0 ∷ e ∷ [])
+endKept (suc m) near e = e ∷ []
 
 -- the points kept of the first n
 unfoldable pub keptOf : List Float → ℕ → List ℕ
 keptOf ps zero = []
-keptOf ps (suc n) = let f : List ℕ = welded ps n .front in f ++ lastOf (length f) (lt (stepOf ps 0 n) micro) n
+keptOf ps (suc n) = let f : List ℕ = welded ps n .front in f ++ endKept (length f) (lt (stepOf ps 0 n) micro) n
 
 unfoldable pub kept : Lane → List ℕ
 kept l = keptOf (l .points) (length (l .points) / 3)

@@ -7,10 +7,12 @@ ghost use lib.Dec.{eqb};
 ghost use lib.ListN.{length, take, drop};
 ghost use Rattle.shape.specs.Gather.{any};
 ghost use Rattle.shape.specs.Memory.{Put};
-ghost use Rattle.shape.specs.Lists.{pointAt};
+ghost use Rattle.shape.specs.Lists.{maxRing, maxVertices};
 ghost use Rattle.shape.specs.Refusal.{leaves};
 ghost use Rattle.shape.specs.Ears.{before, after, cross, turnsLeft, inside, blocks, blocksAt, earOf, isEar, firstEar, earAt, lastEar, without, cutEars, upTo, earsOf, readEars, earsAnswer};
 ghost use Rattle.shape.specs.EarSteps.{Within, Cut};
+use crate::lists::MAX_RING;
+use crate::lists::whole_point;
 use crate::refusal::Refusal;
 use rounding::bits::wide;
 use vector::coords::Point;
@@ -45,29 +47,16 @@ fn is_inside(a: Point, b: Point, c: Point, p: Point) -> bool
 
 // ---- the points left, by their numbers in the ring
 
-// Point i of the ring.
-pub(crate) fn point(ring: &[f32], i: usize) -> Point
-    requires { ⌜ 3 * i + 2 < length (now ring) ⌝ }
-    ensures { λ r. ⌜ r ≡ pointAt (now (ring .entry)) i ⌝ }
-{
-    let at = 3 * i;
-    Point {
-        x: ring[at],
-        y: ring[at + 1],
-        z: ring[at + 2],
-    }
-}
-
 // The positions before and after k in a closed ring of n.
 fn index_before(k: usize, n: usize) -> usize
-    requires { ⌜ (k < n) × (n ≤ 1024) ⌝ }
+    requires { ⌜ (k < n) × (n ≤ maxRing) ⌝ }
     ensures { λ r. ⌜ (r ≡ before n k) × (r < n) ⌝ }
 {
     if k == 0 { n - 1 } else { k - 1 }
 }
 
 fn index_after(k: usize, n: usize) -> usize
-    requires { ⌜ (k < n) × (n ≤ 1024) ⌝ }
+    requires { ⌜ (k < n) × (n ≤ maxRing) ⌝ }
     ensures { λ r. ⌜ (r ≡ after n k) × (r < n) ⌝ }
 {
     if k + 1 == n { 0 } else { k + 1 }
@@ -91,8 +80,13 @@ fn blocks_it(ring: &[f32], a: usize, b: usize, c: usize, p: usize) -> bool
     requires { ⌜ (a < length (now ring) / 3) × (b < length (now ring) / 3) × (c < length (now ring) / 3) × (p < length (now ring) / 3) ⌝ }
     ensures { λ r. ⌜ r ≡ blocks (now (ring .entry)) a b c p ⌝ }
 {
-    let q = point(ring, p);
-    if is_inside(point(ring, a), point(ring, b), point(ring, c), q) {
+    let q = whole_point(ring, p);
+    if is_inside(
+        whole_point(ring, a),
+        whole_point(ring, b),
+        whole_point(ring, c),
+        q,
+    ) {
         return is_other(p, a, b, c);
     }
     false
@@ -118,7 +112,10 @@ fn turns_left(ring: &[f32], a: usize, b: usize, c: usize) -> bool
     requires { ⌜ (a < length (now ring) / 3) × (b < length (now ring) / 3) × (c < length (now ring) / 3) ⌝ }
     ensures { λ r. ⌜ r ≡ turnsLeft (now (ring .entry)) a b c ⌝ }
 {
-    cross_of(point(ring, a), point(ring, b), point(ring, c)) > 0.0
+    let p = whole_point(ring, a);
+    let q = whole_point(ring, b);
+    let r = whole_point(ring, c);
+    cross_of(p, q, r) > 0.0
 }
 
 // Are the points a, b, c an ear of those left?
@@ -134,7 +131,7 @@ fn is_triangle(ring: &[f32], left: &[u32], a: usize, b: usize, c: usize) -> bool
 
 // Is there an ear at position k?
 fn is_ear(ring: &[f32], left: &[u32], k: usize) -> bool
-    requires { ⌜ (k < length (now left)) × (length (now left) ≤ 1024) ⌝ ∗ ⌜ Within (length (now ring) / 3) (now left) ⌝ }
+    requires { ⌜ (k < length (now left)) × (length (now left) ≤ maxRing) ⌝ ∗ ⌜ Within (length (now ring) / 3) (now left) ⌝ }
     ensures { λ r. ⌜ r ≡ isEar (now (ring .entry)) (now (left .entry)) k ⌝ }
 {
     let n = left.len();
@@ -145,7 +142,7 @@ fn is_ear(ring: &[f32], left: &[u32], k: usize) -> bool
 
 // The first position with an ear, or the number of points left where there is none.
 fn first_ear(ring: &[f32], left: &[u32]) -> usize
-    requires { ⌜ length (now left) ≤ 1024 ⌝ ∗ ⌜ Within (length (now ring) / 3) (now left) ⌝ }
+    requires { ⌜ length (now left) ≤ maxRing ⌝ ∗ ⌜ Within (length (now ring) / 3) (now left) ⌝ }
     ensures { λ r. ⌜ (r ≡ firstEar (now (ring .entry)) (now (left .entry))) × (r ≤ length (now (left .entry))) ⌝ }
 {
     let mut k: usize = 0;
@@ -162,7 +159,7 @@ fn first_ear(ring: &[f32], left: &[u32]) -> usize
 
 // The numbers below n, in order.
 pub(crate) fn count_up(left: &mut [u32], n: usize)
-    requires { ⌜ (n ≤ length (now left)) × (n ≤ 65536) ⌝ }
+    requires { ⌜ (n ≤ length (now left)) × (n ≤ maxVertices) ⌝ }
     ensures { λ r. ⌜ Put (now (left .entry)) (now (left .exit)) 0 (upTo n) n ⌝ }
 {
     let mut i: usize = 0;
@@ -185,7 +182,7 @@ fn put_three(ears: &mut [u32], at: usize, a: u32, b: u32, c: u32) -> usize
 
 // The ear at position k of the points left, from `at` on.
 fn put_ear(left: &[u32], k: usize, ears: &mut [u32], at: usize) -> usize
-    requires { ⌜ (k < length (now left)) × (length (now left) ≤ 1024) × (at + 3 ≤ length (now ears)) ⌝ }
+    requires { ⌜ (k < length (now left)) × (length (now left) ≤ maxRing) × (at + 3 ≤ length (now ears)) ⌝ }
     ensures { λ r. ⌜ Put (now (ears .entry)) (now (ears .exit)) at (earAt (now (left .entry)) k) r ⌝ }
 {
     let n = left.len();
@@ -208,7 +205,7 @@ fn remove(left: &mut [u32], n: usize, k: usize)
 
 // The first ear of the n points left is put from `at` on, and its corner taken out.
 fn cut_ear(ring: &[f32], left: &mut [u32], n: usize, ears: &mut [u32], at: usize) -> usize
-    requires { ⌜ (n ≤ length (now left)) × (n ≤ 1024) × (at + 3 ≤ length (now ears)) ⌝ ∗ ⌜ Within (length (now ring) / 3) (take n (now left)) ⌝ }
+    requires { ⌜ (n ≤ length (now left)) × (n ≤ maxRing) × (at + 3 ≤ length (now ears)) ⌝ ∗ ⌜ Within (length (now ring) / 3) (take n (now left)) ⌝ }
     ensures { λ r. ⌜ Cut (now (ring .entry)) n (now (left .entry)) (now (left .exit)) (now (ears .entry)) (now (ears .exit)) at r ⌝ }
 {
     let k = first_ear(ring, &left[..n]);
@@ -236,7 +233,7 @@ fn put_last(ring: &[f32], left: &[u32], ears: &mut [u32], at: usize) -> usize
 
 // The ears of the first `points` numbers of `left`, at the front of `ears`.
 fn cut_all(ring: &[f32], left: &mut [u32], points: usize, ears: &mut [u32]) -> usize
-    requires { ⌜ (points ≤ length (now left)) × (points ≤ 1024) × (3 * points ≤ length (now ears)) ⌝ ∗ ⌜ Within (length (now ring) / 3) (take points (now left)) ⌝ }
+    requires { ⌜ (points ≤ length (now left)) × (points ≤ maxRing) × (3 * points ≤ length (now ears)) ⌝ ∗ ⌜ Within (length (now ring) / 3) (take points (now left)) ⌝ }
     ensures { λ r. ⌜ Put (now (ears .entry)) (now (ears .exit)) 0 (cutEars (now (ring .entry)) (points - 3) (take points (now (left .entry)))) r ⌝ }
 {
     let mut n = points;
@@ -254,10 +251,10 @@ fn cut_all(ring: &[f32], left: &mut [u32], points: usize, ears: &mut [u32]) -> u
 
 // The ears of a ring at the front of `ears`, and how many numbers they are.
 pub(crate) fn clip(ring: &[f32], ears: &mut [u32]) -> usize
-    requires { ⌜ (length (now ring) ≤ 3 * 1024) × (length (now ring) ≤ length (now ears)) ⌝ }
+    requires { ⌜ (length (now ring) ≤ 3 * maxRing) × (length (now ring) ≤ length (now ears)) ⌝ }
     ensures { λ r. ⌜ Put (now (ears .entry)) (now (ears .exit)) 0 (earsOf (now (ring .entry))) r ⌝ }
 {
-    let mut left = [0u32; 1024];
+    let mut left = [0u32; MAX_RING];
     let n = ring.len() / 3;
     count_up(&mut left, n);
     cut_all(ring, &mut left, n, ears)
@@ -280,13 +277,13 @@ pub fn ear_clip(ring: &[f32], out: &mut [u32]) -> EarAnswer
     ensures { λ r. ⌜ readEars r ≡ earsAnswer (now (ring .entry)) (length (now (out .entry))) ⌝ }
     ensures { λ r. ⌜ now (out .exit) ≡ leaves (earsAnswer (now (ring .entry)) (length (now (out .entry)))) (earsOf (now (ring .entry))) (now (out .entry)) ⌝ }
 {
-    if 3 * 1024 < ring.len() {
-        return EarAnswer::Refused(Refusal::Oversize(1024));
+    if 3 * MAX_RING < ring.len() {
+        return EarAnswer::Refused(Refusal::Oversize(MAX_RING));
     }
     if ring.len() % 3 != 0 {
         return EarAnswer::Refused(Refusal::Ragged(0));
     }
-    let mut ears = [0u32; 3072];
+    let mut ears = [0u32; 3 * MAX_RING];
     let wanted = clip(ring, &mut ears);
     if out.len() < wanted {
         return EarAnswer::Refused(Refusal::ShortOutput(wanted));

@@ -8,11 +8,45 @@ ghost use Prim.Native.Nat.{_+_, _-_, _*_, _^_, _≤_, _<_, max};
 ghost use lib.ListN.{length};
 ghost use lib.IntN.{ℤ, subℕ};
 ghost use lib.Ieee.{Float};
-ghost use Rattle.shape.specs.Elevation.{nth, part, rowOf, columnOf, rowCount, valueOf, lineOf, straightOf, slopesOf, acrossOf, firstOf, secondOf, frameOf, entryOf, mulOf, coefficientsOf, surfaceOf, inSquare, triedAt, snapOf, within, heightOf, locateOf, findingOf, answered, heightAnswer, heightAtAnswer};
-ghost use Rattle.shape.specs.ElevationSteps.{oddRun, passOf, faultOf, Placed, Near, Limits};
+ghost use Rattle.shape.specs.Refusal.{found};
+ghost use Rattle.shape.specs.Lists.{maxRows};
+ghost use Rattle.shape.specs.Elevation.{
+  nth,
+  part,
+  rowOf,
+  columnOf,
+  rowCount,
+  valueOf,
+  lineOf,
+  straightOf,
+  slopesOf,
+  acrossOf,
+  firstOf,
+  secondOf,
+  frameOf,
+  entryOf,
+  mulOf,
+  coefficientsOf,
+  surfaceOf,
+  inSquare,
+  triedAt,
+  snapOf,
+  within,
+  heightOf,
+  locateOf,
+  gridCheck,
+  answered,
+  heightAnswer,
+  heightAtAnswer,
+};
+ghost use Rattle.shape.specs.ElevationSteps.{oddRun, passOf, faultOf, limitsSeen, raggedSeen, widestSeen, Placed, Near, Limits};
+use crate::lists::MAX_ROWS;
+use crate::lists::MAX_SIDE;
 use crate::lists::any_long;
+use crate::refusal::Check;
 use crate::refusal::Refusal;
 use rounding::bits::from_bits64;
+use rounding::bits::wide;
 use rounding::count::count64;
 use rounding::extremes::abs64;
 use rounding::whole::floor64;
@@ -138,12 +172,6 @@ impl GridRow {
             after: self.at(left, right, j + 2),
         }
     }
-}
-
-fn wide(x: u32) -> usize
-    ensures { λ r. ⌜ (r ≡ x) × (r < 2 ^ 32) ⌝ }
-{
-    x as usize
 }
 
 // Row i of the grid, which has it.
@@ -465,7 +493,9 @@ fn place_of(at: f64) -> Place
 // in the one below.
 fn in_row(rows: &[u32], left: &[f64], right: &[f64], i: usize, x: f64, column: Place) -> Spot
     requires { ⌜ (0 < i) × (i < 2 ^ 30) × (1 < column .line) × (column .line < 2 ^ 30) ⌝ }
-    ensures { λ r. ⌜ r ≡ triedAt (λ (j : ℤ) (y : Float). inSquare (valueOf (now (rows .entry)) (now (left .entry)) (now (right .entry))) (subℕ i 2048) x j y) (subℕ (column .line) 2048) (column .part) ⌝ }
+    ensures { λ r.
+        let z = valueOf (now (rows .entry)) (now (left .entry)) (now (right .entry)) in
+        ⌜ r ≡ triedAt (λ (j : ℤ) (y : Float). inSquare z (subℕ i 2048) x j y) (subℕ (column .line) 2048) (column .part) ⌝ }
 {
     if column.part == 0.0 {
         let above = in_square(rows, left, right, i, x, column.line, 0.0);
@@ -481,7 +511,11 @@ fn in_row(rows: &[u32], left: &[f64], right: &[f64], i: usize, x: f64, column: P
 // below.
 fn on_grid(rows: &[u32], left: &[f64], right: &[f64], row: Place, column: Place) -> Spot
     requires { ⌜ (1 < row .line) × (row .line < 2 ^ 30) × (1 < column .line) × (column .line < 2 ^ 30) ⌝ }
-    ensures { λ r. ⌜ r ≡ triedAt (λ (i : ℤ) (x : Float). triedAt (λ (j : ℤ) (y : Float). inSquare (valueOf (now (rows .entry)) (now (left .entry)) (now (right .entry))) i x j y) (subℕ (column .line) 2048) (column .part)) (subℕ (row .line) 2048) (row .part) ⌝ }
+    ensures { λ r.
+        let z = valueOf (now (rows .entry)) (now (left .entry)) (now (right .entry)) in
+        let column-at = subℕ (column .line) 2048 in
+        ⌜ r ≡ triedAt (λ (i : ℤ) (x : Float). triedAt (λ (j : ℤ) (y : Float). inSquare z i x j y) column-at (column .part))
+        (subℕ (row .line) 2048) (row .part) ⌝ }
 {
     if row.part == 0.0 {
         let above = in_row(rows, left, right, row.line, 0.0, column);
@@ -494,14 +528,14 @@ fn on_grid(rows: &[u32], left: &[f64], right: &[f64], row: Place, column: Place)
 }
 
 // A NaN is never between.
-fn between(lo: f64, x: f64, hi: f64) -> bool
+fn is_within(lo: f64, x: f64, hi: f64) -> bool
     ensures { λ r. ⌜ r ≡ within lo x hi ⌝ }
 {
     if lo <= x { x <= hi } else { false }
 }
 
 // The height at (s, t) along and to the left of the reference line, in lists that are not faulty.
-// `most` is their longest side, as `survey` finds it.
+// `most` is their longest side, as `check_grid` finds it.
 pub(crate) fn height_in(
     grid: ElevationGrid,
     rows: &[u32],
@@ -529,10 +563,10 @@ pub(crate) fn height_in(
     let v = snap(t / spacing);
     let last = (m - 1) as f64;
     let wide = most as f64;
-    if !between(0.0, u, last) {
+    if !is_within(0.0, u, last) {
         return Spot::Missing;
     }
-    if !between(-wide, v, wide) {
+    if !is_within(-wide, v, wide) {
         return Spot::Missing;
     }
     on_grid(rows, left, right, place_of(u), place_of(v))
@@ -542,7 +576,7 @@ pub(crate) fn height_in(
 
 // What is found of a grid's lists: something past its limit, something ragged, or how many heights the
 // longest side of all rows has.
-pub enum Finding {
+pub enum GridCheck {
     Long,
     Ragged,
     Widest(usize),
@@ -584,15 +618,15 @@ fn in_order(run: Run, last: usize, n: usize) -> bool
     if n < run.end {
         return false;
     }
-    if 1024 < span(run) {
+    if MAX_SIDE < span(run) {
         return false;
     }
     true
 }
 
 // Looks through m rows once, as far as they are in order.
-fn quick(rows: &[u32], left: usize, right: usize, m: usize) -> Pass
-    requires { ⌜ (m ≡ rowCount (now rows)) × (m ≤ 1024) ⌝ }
+fn check_rows(rows: &[u32], left: usize, right: usize, m: usize) -> Pass
+    requires { ⌜ (m ≡ rowCount (now rows)) × (m ≤ maxRows) ⌝ }
     ensures { λ r. ⌜ r ≡ passOf (now (rows .entry)) left right ⌝ }
 {
     let mut most: usize = 0;
@@ -618,36 +652,68 @@ fn quick(rows: &[u32], left: usize, right: usize, m: usize) -> Pass
 }
 
 // What is at fault with rows that are not all in order.
-fn fault(rows: &[u32]) -> Finding
-    requires { ⌜ length (now rows) ≤ 6144 ⌝ }
+fn fault(rows: &[u32]) -> GridCheck
+    requires { ⌜ length (now rows) ≤ 6 * maxRows ⌝ }
     ensures { λ r. ⌜ r ≡ faultOf (now (rows .entry)) ⌝ }
 {
     let m = rows.len() / 6;
-    if any_long(rows, 6, 2, 1024, m) {
-        return Finding::Long;
+    if any_long(rows, 6, 2, MAX_SIDE, m) {
+        return GridCheck::Long;
     }
-    if any_long(rows, 6, 4, 1024, m) {
-        return Finding::Long;
+    if any_long(rows, 6, 4, MAX_SIDE, m) {
+        return GridCheck::Long;
     }
-    Finding::Ragged
+    GridCheck::Ragged
 }
 
 // Looks through the rows. `left` and `right` are the lengths of the lists of heights. What is at fault
 // is only searched for if anything is.
-pub(crate) fn survey(rows: &[u32], left: usize, right: usize) -> Finding
-    ensures { λ r. ⌜ r ≡ findingOf (now (rows .entry)) left right ⌝ }
+pub(crate) fn check_grid(rows: &[u32], left: usize, right: usize) -> GridCheck
+    ensures { λ r. ⌜ r ≡ gridCheck (now (rows .entry)) left right ⌝ }
 {
-    if 6 * 1024 < rows.len() {
-        return Finding::Long;
+    if 6 * MAX_ROWS < rows.len() {
+        return GridCheck::Long;
     }
-    let seen = quick(rows, left, right, rows.len() / 6);
+    let seen = check_rows(rows, left, right, rows.len() / 6);
     let Pass::Sound(most) = seen else {
         return fault(rows);
     };
     if rows.len() % 6 != 0 {
-        return Finding::Ragged;
+        return GridCheck::Ragged;
     }
-    Finding::Widest(most)
+    GridCheck::Widest(most)
+}
+
+// What was found, as the faults of a call: a limit that is past, and ragged rows, which are list `rows` of the
+// call. Where there is neither, the longest side of all rows.
+pub(crate) fn grid_limits(seen: GridCheck) -> Check
+    ensures { λ r. ⌜ found r ≡ limitsSeen seen ⌝ }
+{
+    match seen {
+        GridCheck::Long => Check::Faulty(Refusal::Oversize(MAX_ROWS)),
+        GridCheck::Ragged => Check::Fine,
+        GridCheck::Widest(most) => Check::Fine,
+    }
+}
+
+pub(crate) fn grid_ragged(seen: GridCheck, rows: usize) -> Check
+    ensures { λ r. ⌜ found r ≡ raggedSeen rows seen ⌝ }
+{
+    match seen {
+        GridCheck::Long => Check::Fine,
+        GridCheck::Ragged => Check::Faulty(Refusal::Ragged(rows)),
+        GridCheck::Widest(most) => Check::Fine,
+    }
+}
+
+pub(crate) fn widest(seen: GridCheck) -> usize
+    ensures { λ r. ⌜ r ≡ widestSeen seen ⌝ }
+{
+    match seen {
+        GridCheck::Long => 0,
+        GridCheck::Ragged => 0,
+        GridCheck::Widest(most) => most,
+    }
 }
 
 // The height at (s, t) along and to the left of the reference line.
@@ -661,15 +727,15 @@ pub fn height(
 ) -> Elevation
     ensures { λ r. ⌜ answered r ≡ heightAnswer grid (now (rows .entry)) (now (left .entry)) (now (right .entry)) s t ⌝ }
 {
-    let found = survey(rows, left.len(), right.len());
+    let found = check_grid(rows, left.len(), right.len());
     let most = match found {
-        Finding::Long => {
-            return Elevation::Refused(Refusal::Oversize(1024));
+        GridCheck::Long => {
+            return Elevation::Refused(Refusal::Oversize(MAX_ROWS));
         }
-        Finding::Ragged => {
+        GridCheck::Ragged => {
             return Elevation::Refused(Refusal::Ragged(0));
         }
-        Finding::Widest(most) => most,
+        GridCheck::Widest(most) => most,
     };
     let z = height_in(grid, rows, left, right, most, s, t);
     match z {

@@ -1,28 +1,60 @@
 // The ground of a junction as triangles: the ears of its boundary, each split to the spacing of the
 // elevation grid.
 ghost use mathlib.Core.Path.{_≡_};
-ghost use mathlib.Core.List.{[], _∷_};
+ghost use mathlib.Core.List.{[]};
 ghost use Prim.Native.Nat.{ℕ, _+_, _-_, _*_, _/_, _^_, _≤_, _<_};
 ghost use lib.ListN.{length};
 ghost use Rattle.shape.specs.Memory.{Put};
-ghost use Rattle.shape.specs.Lists.{meshLists};
+ghost use Rattle.shape.specs.Refusal.{found, refuse, orElse};
+ghost use Rattle.shape.specs.Lists.{maxRing, longer, uneven, meshLists};
 ghost use Rattle.shape.specs.MeshMemory.{leavesMesh};
 ghost use Rattle.shape.specs.EarSteps.{Within};
-ghost use Rattle.shape.specs.JunctionMesh.{longestOf, partsOf, earCut, count, lattice, faceOf, cornersOf, thrice, normalsOf, vertexCount, stepOf, stood, liftOf, rowOf, earMesh, earsMesh, ground, groundLengths, groundMesh, groundResult, groundAnswer, readGround};
-ghost use Rattle.shape.specs.ElevationSteps.{Limits};
+ghost use Rattle.shape.specs.JunctionMesh.{
+  longestOf,
+  partsOf,
+  earCut,
+  count,
+  lattice,
+  faceOf,
+  cornerCoords,
+  thrice,
+  faceNormals,
+  vertexCount,
+  spacingOf,
+  raisedTo,
+  liftOf,
+  rowOf,
+  earMesh,
+  earsMesh,
+  ground,
+  groundLengths,
+  groundMesh,
+  groundResult,
+  groundAnswer,
+  readGround,
+};
+ghost use Rattle.shape.specs.ElevationSteps.{limitsSeen, raggedSeen, Limits};
 use crate::ears::clip;
 use crate::ears::count_up;
-use crate::ears::point;
 use crate::elevation::ElevationGrid;
-use crate::elevation::Finding;
+use crate::elevation::GridCheck;
 use crate::elevation::Spot;
+use crate::elevation::check_grid;
+use crate::elevation::grid_limits;
+use crate::elevation::grid_ragged;
 use crate::elevation::height_in;
 use crate::elevation::locate;
-use crate::elevation::survey;
+use crate::elevation::widest;
+use crate::lists::MAX_RING;
+use crate::lists::whole_point;
 use crate::memory::Lengths;
+use crate::memory::put_singles;
 use crate::memory::room_fault;
 use crate::refusal::Check;
 use crate::refusal::Refusal;
+use crate::refusal::or_else;
+use crate::refusal::oversize_if;
+use crate::refusal::ragged_if;
 use rounding::bits::wide;
 use rounding::count::count64;
 use rounding::extremes::clamp64;
@@ -78,9 +110,9 @@ fn ear_at(ring: &[f32], ears: &[u32], k: usize, step: f64) -> Ear
     ensures { λ r. ⌜ (r ≡ earCut step (now (ring .entry)) (now (ears .entry)) k) × (r .n ≤ 64) ⌝ }
 {
     let at = 3 * k;
-    let a = point(ring, wide(ears[at]));
-    let b = point(ring, wide(ears[at + 1]));
-    let c = point(ring, wide(ears[at + 2]));
+    let a = whole_point(ring, wide(ears[at]));
+    let b = whole_point(ring, wide(ears[at + 1]));
+    let c = whole_point(ring, wide(ears[at + 2]));
     Ear {
         a: a,
         b: b,
@@ -121,21 +153,10 @@ fn face(a: Point, b: Point, c: Point) -> Vector
     if v.z < 0.0 { v.mul(-1.0) } else { v }
 }
 
-// Three singles into the memory.
-fn put_singles(out: &mut [f32], at: usize, x: f32, y: f32, z: f32) -> usize
-    requires { ⌜ at + 3 ≤ length (now out) ⌝ }
-    ensures { λ r. ⌜ Put (now (out .entry)) (now (out .exit)) at (x ∷ y ∷ z ∷ []) r ⌝ }
-{
-    out[at] = x;
-    out[at + 1] = y;
-    out[at + 2] = z;
-    at + 3
-}
-
 // Three points into the memory.
 fn put_corners(out: &mut [f32], at: usize, a: Point, b: Point, c: Point) -> usize
     requires { ⌜ at + 9 ≤ length (now out) ⌝ }
-    ensures { λ r. ⌜ Put (now (out .entry)) (now (out .exit)) at (cornersOf a b c) r ⌝ }
+    ensures { λ r. ⌜ Put (now (out .entry)) (now (out .exit)) at (cornerCoords a b c) r ⌝ }
 {
     let q = put_singles(out, at, a.x, a.y, a.z);
     let r = put_singles(out, q, b.x, b.y, b.z);
@@ -155,8 +176,8 @@ fn put_thrice(out: &mut [f32], at: usize, v: Vector) -> usize
 // A triangle with its own vertices, and its normal at each.
 fn push(vertices: &mut [f32], normals: &mut [f32], at: usize, a: Point, b: Point, c: Point) -> usize
     requires { ⌜ (at + 9 ≤ length (now vertices)) × (at + 9 ≤ length (now normals)) ⌝ }
-    ensures { λ r. ⌜ Put (now (vertices .entry)) (now (vertices .exit)) at (cornersOf a b c) r ⌝ }
-    ensures { λ r. ⌜ Put (now (normals .entry)) (now (normals .exit)) at (normalsOf a b c) r ⌝ }
+    ensures { λ r. ⌜ Put (now (vertices .entry)) (now (vertices .exit)) at (cornerCoords a b c) r ⌝ }
+    ensures { λ r. ⌜ Put (now (normals .entry)) (now (normals .exit)) at (faceNormals a b c) r ⌝ }
 {
     put_corners(vertices, at, a, b, c);
     put_thrice(normals, at, face(a, b, c))
@@ -166,8 +187,8 @@ fn push(vertices: &mut [f32], normals: &mut [f32], at: usize, a: Point, b: Point
 
 // How many vertices the triangles of the ears have.
 fn count_vertices(ring: &[f32], ears: &[u32], step: f64) -> usize
-    requires { ⌜ length (now ears) ≤ 3072 ⌝ ∗ ⌜ Within (length (now ring) / 3) (now ears) ⌝ }
-    ensures { λ r. ⌜ (r ≡ vertexCount step (now (ring .entry)) (now (ears .entry))) × (r ≤ 12288 * 1024) ⌝ }
+    requires { ⌜ length (now ears) ≤ 3 * maxRing ⌝ ∗ ⌜ Within (length (now ring) / 3) (now ears) ⌝ }
+    ensures { λ r. ⌜ (r ≡ vertexCount step (now (ring .entry)) (now (ears .entry))) × (r ≤ 12288 * maxRing) ⌝ }
 {
     let mut total: usize = 0;
     let mut k: usize = 0;
@@ -182,7 +203,7 @@ fn count_vertices(ring: &[f32], ears: &[u32], step: f64) -> usize
 // The lengths of a mesh of so many vertices. Each triangle has its own, so that there are as many indices;
 // a junction has no spans.
 fn ground_lengths(many: usize) -> Lengths
-    requires { ⌜ many ≤ 12288 * 1024 ⌝ }
+    requires { ⌜ many ≤ 12288 * maxRing ⌝ }
     ensures { λ r. ⌜ r ≡ groundLengths many ⌝ }
 {
     Lengths {
@@ -196,8 +217,8 @@ fn ground_lengths(many: usize) -> Lengths
 // ---- the grid
 
 // How far apart the grid's points are: infinitely far where there is no grid.
-fn step_of(grid: JunctionGrid) -> f64
-    ensures { λ r. ⌜ r ≡ stepOf grid ⌝ }
+fn spacing_of(grid: JunctionGrid) -> f64
+    ensures { λ r. ⌜ r ≡ spacingOf grid ⌝ }
 {
     match grid {
         JunctionGrid::Absent => 1.0 / 0.0,
@@ -206,8 +227,8 @@ fn step_of(grid: JunctionGrid) -> f64
 }
 
 // A point at a height, if there is one.
-fn stand(p: Point, z: Spot) -> Point
-    ensures { λ r. ⌜ r ≡ stood p z ⌝ }
+fn raised_to(p: Point, z: Spot) -> Point
+    ensures { λ r. ⌜ r ≡ raisedTo p z ⌝ }
 {
     match z {
         Spot::Missing => p,
@@ -239,7 +260,7 @@ fn lifted(
         JunctionGrid::Present(g) => {
             let at = locate(g, widen(p.x), widen(p.y));
             let z = height_in(g, rows, left, right, most, at.s, at.t);
-            stand(p, z)
+            raised_to(p, z)
         }
     }
 }
@@ -260,9 +281,15 @@ fn put_row(
     normals: &mut [f32],
     from: usize,
 ) -> usize
-    requires { ⌜ Limits (now rows) most ⌝ ∗ ⌜ (i < e .n) × (e .n ≤ 64) × (from + 18 * (e .n - i) ≤ length (now vertices) + 9) × (from + 18 * (e .n - i) ≤ length (now normals) + 9) ⌝ }
-    ensures { λ r. ⌜ Put (now (vertices .entry)) (now (vertices .exit)) from (rowOf cornersOf (λ (x y : ℕ). liftOf grid (now (rows .entry)) (now (left .entry)) (now (right .entry)) (lattice e x y)) (e .n) i) r ⌝ }
-    ensures { λ r. ⌜ Put (now (normals .entry)) (now (normals .exit)) from (rowOf normalsOf (λ (x y : ℕ). liftOf grid (now (rows .entry)) (now (left .entry)) (now (right .entry)) (lattice e x y)) (e .n) i) r ⌝ }
+    requires { let to = from + 18 * (e .n - i) in
+        ⌜ Limits (now rows) most ⌝
+        ∗ ⌜ (i < e .n) × (e .n ≤ 64) × (to ≤ length (now vertices) + 9) × (to ≤ length (now normals) + 9) ⌝ }
+    ensures { λ r.
+        let lift = liftOf grid (now (rows .entry)) (now (left .entry)) (now (right .entry)) in
+        ⌜ Put (now (vertices .entry)) (now (vertices .exit)) from (rowOf cornerCoords (λ (x y : ℕ). lift (lattice e x y)) (e .n) i) r ⌝ }
+    ensures { λ r.
+        let lift = liftOf grid (now (rows .entry)) (now (left .entry)) (now (right .entry)) in
+        ⌜ Put (now (normals .entry)) (now (normals .exit)) from (rowOf faceNormals (λ (x y : ℕ). lift (lattice e x y)) (e .n) i) r ⌝ }
 {
     let n = e.n;
     let mut at = from;
@@ -295,8 +322,8 @@ fn put_split(
     from: usize,
 ) -> usize
     requires { ⌜ Limits (now rows) most ⌝ ∗ ⌜ (e .n ≤ 64) × (from + 9 * (e .n * e .n) ≤ length (now vertices)) × (from + 9 * (e .n * e .n) ≤ length (now normals)) ⌝ }
-    ensures { λ r. ⌜ Put (now (vertices .entry)) (now (vertices .exit)) from (earMesh cornersOf (liftOf grid (now (rows .entry)) (now (left .entry)) (now (right .entry))) e) r ⌝ }
-    ensures { λ r. ⌜ Put (now (normals .entry)) (now (normals .exit)) from (earMesh normalsOf (liftOf grid (now (rows .entry)) (now (left .entry)) (now (right .entry))) e) r ⌝ }
+    ensures { λ r. ⌜ Put (now (vertices .entry)) (now (vertices .exit)) from (earMesh cornerCoords (liftOf grid (now (rows .entry)) (now (left .entry)) (now (right .entry))) e) r ⌝ }
+    ensures { λ r. ⌜ Put (now (normals .entry)) (now (normals .exit)) from (earMesh faceNormals (liftOf grid (now (rows .entry)) (now (left .entry)) (now (right .entry))) e) r ⌝ }
 {
     let n = e.n;
     let mut at = from;
@@ -320,13 +347,19 @@ fn put_ears(
     vertices: &mut [f32],
     normals: &mut [f32],
 ) -> usize
-    requires { let many = vertexCount (stepOf grid) (now ring) (now ears) in
+    requires { let many = vertexCount (spacingOf grid) (now ring) (now ears) in
         ⌜ Limits (now rows) most ⌝ ∗ ⌜ Within (length (now ring) / 3) (now ears) ⌝
-        ∗ ⌜ (length (now ears) ≤ 3072) × (3 * many ≤ length (now vertices)) × (3 * many ≤ length (now normals)) ⌝ }
-    ensures { λ r. ⌜ Put (now (vertices .entry)) (now (vertices .exit)) 0 (earsMesh cornersOf (liftOf grid (now (rows .entry)) (now (left .entry)) (now (right .entry))) (stepOf grid) (now (ring .entry)) (now (ears .entry))) r ⌝ }
-    ensures { λ r. ⌜ Put (now (normals .entry)) (now (normals .exit)) 0 (earsMesh normalsOf (liftOf grid (now (rows .entry)) (now (left .entry)) (now (right .entry))) (stepOf grid) (now (ring .entry)) (now (ears .entry))) r ⌝ }
+        ∗ ⌜ (length (now ears) ≤ 3 * maxRing) × (3 * many ≤ length (now vertices)) × (3 * many ≤ length (now normals)) ⌝ }
+    ensures { λ r.
+        let lift = liftOf grid (now (rows .entry)) (now (left .entry)) (now (right .entry)) in
+        let made = earsMesh cornerCoords lift (spacingOf grid) (now (ring .entry)) (now (ears .entry)) in
+        ⌜ Put (now (vertices .entry)) (now (vertices .exit)) 0 made r ⌝ }
+    ensures { λ r.
+        let lift = liftOf grid (now (rows .entry)) (now (left .entry)) (now (right .entry)) in
+        let made = earsMesh faceNormals lift (spacingOf grid) (now (ring .entry)) (now (ears .entry)) in
+        ⌜ Put (now (normals .entry)) (now (normals .exit)) 0 made r ⌝ }
 {
-    let step = step_of(grid);
+    let step = spacing_of(grid);
     let mut at: usize = 0;
     let mut k: usize = 0;
     while k < ears.len() / 3 {
@@ -349,7 +382,7 @@ fn mesh_checked(
     normals: &mut [f32],
     indices: &mut [u32],
 ) -> JunctionAnswer
-    requires { ⌜ Limits (now rows) most ⌝ ∗ ⌜ length (now ring) ≤ 3 * 1024 ⌝ }
+    requires { ⌜ Limits (now rows) most ⌝ ∗ ⌜ length (now ring) ≤ 3 * maxRing ⌝ }
     ensures { λ r.
         let g = ground (now (ring .entry)) grid (now (rows .entry)) (now (left .entry)) (now (right .entry)) in
         let before = meshLists (now (vertices .entry)) (now (normals .entry)) (now (indices .entry)) [] in
@@ -360,10 +393,10 @@ fn mesh_checked(
         let after = meshLists (now (vertices .exit)) (now (normals .exit)) (now (indices .exit)) [] in
         ⌜ after ≡ leavesMesh (groundResult g before) (groundMesh g) before ⌝ }
 {
-    let mut memory = [0u32; 3072];
+    let mut memory = [0u32; 3 * MAX_RING];
     let m = clip(ring, &mut memory);
     let ears = &memory[..m];
-    let many = count_vertices(ring, ears, step_of(grid));
+    let many = count_vertices(ring, ears, spacing_of(grid));
     let lent = Lengths {
         vertices: vertices.len(),
         normals: normals.len(),
@@ -379,6 +412,17 @@ fn mesh_checked(
             JunctionAnswer::Made(many)
         }
     }
+}
+
+// Why the lists are turned back, if they are, where `seen` is what was found of the grid's. Its rows are list 1.
+fn input_fault(ring: &[f32], seen: GridCheck) -> Check
+    ensures { λ r.
+        let xs = now (ring .entry) in
+        ⌜ found r ≡ orElse (refuse (longer 3 maxRing xs) 1 maxRing (limitsSeen seen)) (refuse (uneven 3 xs) 2 0 (raggedSeen 1 seen)) ⌝ }
+{
+    let limits = oversize_if(3 * MAX_RING < ring.len(), MAX_RING, grid_limits(seen));
+    let ragged = ragged_if(ring.len() % 3 != 0, 0, grid_ragged(seen, 1));
+    or_else(limits, ragged)
 }
 
 // The ground inside a boundary as triangles: vertices, normals and indices.
@@ -402,33 +446,19 @@ pub fn mesh(
         let after = meshLists (now (vertices .exit)) (now (normals .exit)) (now (indices .exit)) [] in
         ⌜ after ≡ leavesMesh (groundAnswer g before) (groundMesh g) before ⌝ }
 {
-    if 3 * 1024 < ring.len() {
-        return JunctionAnswer::Refused(Refusal::Oversize(1024));
-    }
-    let seen = survey(rows, left.len(), right.len());
-    match seen {
-        Finding::Long => JunctionAnswer::Refused(Refusal::Oversize(1024)),
-        Finding::Ragged => {
-            if ring.len() % 3 != 0 {
-                return JunctionAnswer::Refused(Refusal::Ragged(0));
-            }
-            JunctionAnswer::Refused(Refusal::Ragged(1))
-        }
-        Finding::Widest(most) => {
-            if ring.len() % 3 != 0 {
-                return JunctionAnswer::Refused(Refusal::Ragged(0));
-            }
-            mesh_checked(
-                ring,
-                grid,
-                rows,
-                left,
-                right,
-                most,
-                vertices,
-                normals,
-                indices,
-            )
-        }
+    let seen = check_grid(rows, left.len(), right.len());
+    match input_fault(ring, seen) {
+        Check::Faulty(r) => JunctionAnswer::Refused(r),
+        Check::Fine => mesh_checked(
+            ring,
+            grid,
+            rows,
+            left,
+            right,
+            widest(seen),
+            vertices,
+            normals,
+            indices,
+        ),
     }
 }

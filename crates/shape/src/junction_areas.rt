@@ -10,7 +10,7 @@ ghost use Rattle.rounding.specs.Hypot.{hypotOf};
 ghost use Rattle.rounding.specs.Thresholds.{milli};
 ghost use Rattle.vector.specs.declared.coords.Point.{Point};
 ghost use Rattle.shape.specs.Memory.{Put};
-ghost use Rattle.shape.specs.Lists.{startOf, endOf, lastEnd};
+ghost use Rattle.shape.specs.Lists.{maxSegments, maxBoundaryPoints, startOf, endOf, lastEnd};
 ghost use Rattle.shape.specs.Refusal.{found, fine};
 ghost use Rattle.shape.specs.Outline.{
   reachOf,
@@ -42,10 +42,13 @@ ghost use Rattle.shape.specs.Outline.{
   outlineFault,
   Outlines,
 };
-ghost use Rattle.shape.specs.OutlineSteps.{squaresBetween, rootedOf, Wide, Squares, Covers, Sane, Holds, Joins};
+ghost use Rattle.shape.specs.OutlineSteps.{squaresBetween, rootedOf, Wide, Squares, GapCovers, SoundLists, Holds, Joins};
+use crate::lists::MAX_BOUNDARY_POINTS;
+use crate::lists::MAX_SEGMENTS;
 use crate::lists::any_bad;
 use crate::lists::point_at;
 use crate::lists::record_word;
+use crate::memory::put_singles;
 use crate::refusal::Check;
 use crate::refusal::Refusal;
 use crate::refusal::oversize_if;
@@ -76,7 +79,7 @@ pub enum OutlineAnswer {
 }
 
 // The ring so far: how many points it has, and the last of them.
-struct Held {
+struct RingSoFar {
     count: usize,
     last: Point,
 }
@@ -89,7 +92,7 @@ struct Gap {
 
 // The ring so far, with how many segments it is made of and the greatest gap between them.
 struct Joined {
-    held: Held,
+    ring: RingSoFar,
     segments: usize,
     gap: Gap,
 }
@@ -151,7 +154,7 @@ fn meets(p: Point, q: Point) -> bool
 }
 
 // The sum of squares whose root is the distance.
-fn between(p: Point, q: Point) -> f64
+fn squares_between(p: Point, q: Point) -> f64
     ensures { λ r. ⌜ r ≡ squaresBetween p q ⌝ }
 {
     squares(p.x - q.x, p.y - q.y)
@@ -176,8 +179,8 @@ fn nearer(a: f64, b: f64) -> bool
 
 // The greatest gap, where the root of s is one more. No root is taken where s is not above the squares.
 fn widened(gap: Gap, s: f64) -> Gap
-    requires { ⌜ Covers gap × Squares s ⌝ }
-    ensures { λ r. ⌜ (r .root ≡ maxOf (gap .root) (rootedOf s)) × Covers r ⌝ }
+    requires { ⌜ GapCovers gap × Squares s ⌝ }
+    ensures { λ r. ⌜ (r .root ≡ maxOf (gap .root) (rootedOf s)) × GapCovers r ⌝ }
 {
     if s > gap.squares {
         return Gap {
@@ -237,11 +240,15 @@ fn turns_first(s: &[f32], t: &[f32]) -> bool
 
 // A later segment s, where the ring ends at `end`. The gap to it is one of the two distances compared.
 fn turn_later(end: Point, gap: Gap, s: &[f32]) -> Turn
-    requires { ⌜ Covers gap ⌝ }
-    ensures { λ r. ⌜ (r .back ≡ turnsLater end (now (s .entry))) × (r .gap .root ≡ maxOf (gap .root) (reachOf end (pointFrom (turnsLater end (now (s .entry))) (now (s .entry)) 0))) × Covers (r .gap) ⌝ }
+    requires { ⌜ GapCovers gap ⌝ }
+    ensures { λ r.
+        let back = turnsLater end (now (s .entry)) in
+        ⌜ (r .back ≡ back)
+        × (r .gap .root ≡ maxOf (gap .root) (reachOf end (pointFrom back (now (s .entry)) 0)))
+        × GapCovers (r .gap) ⌝ }
 {
-    let far = between(end, final_point(s));
-    let near = between(end, first_point(s));
+    let far = squares_between(end, final_point(s));
+    let near = squares_between(end, first_point(s));
     if nearer(far, near) {
         return Turn {
             back: true,
@@ -256,7 +263,7 @@ fn turn_later(end: Point, gap: Gap, s: &[f32]) -> Turn
 
 // The first segment from k on that is not empty, or how many segments there are.
 fn next_solid(segments: &[u32], k: usize) -> usize
-    requires { ⌜ (k ≤ length (now segments) / 2) × (length (now segments) ≤ 512) ⌝ }
+    requires { ⌜ (k ≤ length (now segments) / 2) × (length (now segments) ≤ 2 * maxSegments) ⌝ }
     ensures { λ r. ⌜ (k ≤ r) × (r ≤ length (now (segments .entry)) / 2) × (length (solid (now (segments .entry)) r) ≡ length (solid (now (segments .entry)) k)) ⌝ }
     ensures { λ r. ⌜ (r < length (now (segments .entry)) / 2 → startOf 2 0 (now (segments .entry)) r < endOf 2 0 (now (segments .entry)) r) ⌝ }
 {
@@ -273,8 +280,10 @@ fn next_solid(segments: &[u32], k: usize) -> usize
 
 // Is the first segment that is not empty, s with the number k, reversed? With no second it is not.
 fn first_turns(segments: &[u32], points: &[f32], s: &[f32], k: usize) -> bool
-    requires { ⌜ (k < length (now segments) / 2) × (startOf 2 0 (now segments) k < endOf 2 0 (now segments) k) × (length (solid (now segments) k) ≡ 0) × (now s ≡ segmentOf (now segments) (now points) k) ⌝ }
-    requires { ⌜ Sane (now segments) (now points) ⌝ }
+    requires { let ws = now segments in
+        ⌜ (k < length ws / 2) × (startOf 2 0 ws k < endOf 2 0 ws k) × (length (solid ws k) ≡ 0)
+        × (now s ≡ segmentOf ws (now points) k) ⌝ }
+    requires { ⌜ SoundLists (now segments) (now points) ⌝ }
     ensures { λ r. ⌜ ((end : Point) → r ≡ turnsAt (now (segments .entry)) (now (points .entry)) 0 end) ⌝ }
 {
     let next = next_solid(segments, k + 1);
@@ -288,11 +297,18 @@ fn first_turns(segments: &[u32], points: &[f32], s: &[f32], k: usize) -> bool
 
 // How segment s, with the number k and not empty, is joined to the ring that j tells of.
 fn turn_at(segments: &[u32], points: &[f32], s: &[f32], j: Joined, k: usize) -> Turn
-    requires { ⌜ (k < length (now segments) / 2) × (startOf 2 0 (now segments) k < endOf 2 0 (now segments) k) × (j .segments ≡ length (solid (now segments) k)) × (now s ≡ segmentOf (now segments) (now points) k) × Covers (j .gap) ⌝ }
-    requires { ⌜ Sane (now segments) (now points) ⌝ }
-    ensures { λ r. ⌜ (r .back ≡ turnsAt (now (segments .entry)) (now (points .entry)) (j .segments) (j .held .last)) × (r .gap .root ≡ gapAt (now (segments .entry)) (now (points .entry)) (j .segments) (j .held .last) (j .gap .root)) × Covers (r .gap) ⌝ }
+    requires { let ws = now segments in
+        ⌜ (k < length ws / 2) × (startOf 2 0 ws k < endOf 2 0 ws k) × (j .segments ≡ length (solid ws k))
+        × (now s ≡ segmentOf ws (now points) k) × GapCovers (j .gap) ⌝ }
+    requires { ⌜ SoundLists (now segments) (now points) ⌝ }
+    ensures { λ r.
+        let ws = now (segments .entry) in
+        let xs = now (points .entry) in
+        ⌜ (r .back ≡ turnsAt ws xs (j .segments) (j .ring .last))
+        × (r .gap .root ≡ gapAt ws xs (j .segments) (j .ring .last) (j .gap .root))
+        × GapCovers (r .gap) ⌝ }
 {
-    let held = j.held;
+    let ring = j.ring;
     let gap = j.gap;
     if j.segments == 0 {
         return Turn {
@@ -300,7 +316,7 @@ fn turn_at(segments: &[u32], points: &[f32], s: &[f32], j: Joined, k: usize) -> 
             gap: gap,
         };
     }
-    turn_later(held.last, gap, s)
+    turn_later(ring.last, gap, s)
 }
 
 // ---- joining
@@ -310,14 +326,11 @@ fn put_point(out: &mut [f32], at: usize, p: Point) -> usize
     requires { ⌜ at + 3 ≤ length (now out) ⌝ }
     ensures { λ r. ⌜ Put (now (out .entry)) (now (out .exit)) at (flat (p ∷ [])) r ⌝ }
 {
-    out[at] = p.x;
-    out[at + 1] = p.y;
-    out[at + 2] = p.z;
-    at + 3
+    put_singles(out, at, p.x, p.y, p.z)
 }
 
 // Is a point the first of all, or more than 1e-3 from the last?
-fn is_new(h: Held, p: Point) -> bool
+fn is_new(h: RingSoFar, p: Point) -> bool
     ensures { λ r. ⌜ ((ring : List Point) → h .count ≡ length ring → h .last ≡ lastOf ring → r ≡ isNew ring p) ⌝ }
 {
     if h.count == 0 {
@@ -327,13 +340,13 @@ fn is_new(h: Held, p: Point) -> bool
 }
 
 // A point, if it is new.
-fn add_point(line: &mut [f32], h: Held, p: Point) -> Held
+fn add_point(line: &mut [f32], h: RingSoFar, p: Point) -> RingSoFar
     requires { ⌜ 3 * h .count + 3 ≤ length (now line) ⌝ }
     ensures { λ r. ⌜ ((blank : List Float) (ring : List Point) → Holds blank (now (line .entry)) ring h → Holds blank (now (line .exit)) (added ring p) r) × (r .count ≤ h .count + 1) ⌝ }
 {
     if is_new(h, p) {
         put_point(line, 3 * h.count, p);
-        return Held {
+        return RingSoFar {
             count: h.count + 1,
             last: p,
         };
@@ -342,9 +355,14 @@ fn add_point(line: &mut [f32], h: Held, p: Point) -> Held
 }
 
 // The points of a segment, from its start or its end.
-fn append(s: &[f32], back: bool, line: &mut [f32], from: Held) -> Held
-    requires { ⌜ (3 * (from .count + length (now s) / 3) ≤ length (now line)) × (length (now s) ≤ 12288) ⌝ }
-    ensures { λ r. ⌜ ((blank : List Float) (ring : List Point) → Holds blank (now (line .entry)) ring from → Holds blank (now (line .exit)) (extended ring back (now (s .entry)) (length (now (s .entry)) / 3)) r) × (r .count ≤ from .count + length (now (s .entry)) / 3) ⌝ }
+fn append(s: &[f32], back: bool, line: &mut [f32], from: RingSoFar) -> RingSoFar
+    requires { ⌜ (3 * (from .count + length (now s) / 3) ≤ length (now line)) × (length (now s) ≤ 3 * maxBoundaryPoints) ⌝ }
+    ensures { λ r.
+        let xs = now (s .entry) in
+        ⌜ ((blank : List Float) (ring : List Point) →
+        Holds blank (now (line .entry)) ring from →
+        Holds blank (now (line .exit)) (extended ring back xs (length xs / 3)) r)
+        × (r .count ≤ from .count + length xs / 3) ⌝ }
 {
     let n = s.len() / 3;
     let mut h = from;
@@ -359,9 +377,18 @@ fn append(s: &[f32], back: bool, line: &mut [f32], from: Held) -> Held
 
 // Segment k, unless it is empty. It is passed on as its part of the list of points.
 fn join_step(segments: &[u32], points: &[f32], line: &mut [f32], j: Joined, k: usize) -> Joined
-    requires { ⌜ (k < length (now segments) / 2) × (length (now points) ≤ length (now line)) × (j .held .count ≤ lastEnd 2 0 (now segments) k) × (j .segments ≡ length (solid (now segments) k)) × Covers (j .gap) ⌝ }
-    requires { ⌜ Sane (now segments) (now points) ⌝ }
-    ensures { λ r. ⌜ ((blank : List Float) → Joins (now (segments .entry)) (now (points .entry)) blank (now (line .entry)) k j → Joins (now (segments .entry)) (now (points .entry)) blank (now (line .exit)) (k + 1) r) × (r .held .count ≤ lastEnd 2 0 (now (segments .entry)) (k + 1)) × Covers (r .gap) ⌝ }
+    requires { let ws = now segments in
+        ⌜ (k < length ws / 2) × (length (now points) ≤ length (now line)) × (j .ring .count ≤ lastEnd 2 0 ws k)
+        × (j .segments ≡ length (solid ws k)) × GapCovers (j .gap) ⌝ }
+    requires { ⌜ SoundLists (now segments) (now points) ⌝ }
+    ensures { λ r.
+        let ws = now (segments .entry) in
+        let xs = now (points .entry) in
+        ⌜ ((blank : List Float) →
+        Joins ws xs blank (now (line .entry)) k j →
+        Joins ws xs blank (now (line .exit)) (k + 1) r)
+        × (r .ring .count ≤ lastEnd 2 0 ws (k + 1))
+        × GapCovers (r .gap) ⌝ }
 {
     let a = record_word(segments, 2, k, 0);
     let e = record_word(segments, 2, k, 1);
@@ -371,11 +398,11 @@ fn join_step(segments: &[u32], points: &[f32], line: &mut [f32], j: Joined, k: u
     let from = 3 * a;
     let to = 3 * e;
     let t = turn_at(segments, points, &points[from..to], j, k);
-    let held = j.held;
-    let h = append(&points[from..to], t.back, line, held);
+    let ring = j.ring;
+    let h = append(&points[from..to], t.back, line, ring);
     let gap = t.gap;
     Joined {
-        held: h,
+        ring: h,
         segments: j.segments + 1,
         gap: gap,
     }
@@ -383,11 +410,14 @@ fn join_step(segments: &[u32], points: &[f32], line: &mut [f32], j: Joined, k: u
 
 // All segments, one after another.
 fn join(segments: &[u32], points: &[f32], line: &mut [f32]) -> Joined
-    requires { ⌜ Sane (now segments) (now points) ⌝ }
+    requires { ⌜ SoundLists (now segments) (now points) ⌝ }
     requires { ⌜ length (now points) ≤ length (now line) ⌝ }
-    ensures { λ r. ⌜ Joins (now (segments .entry)) (now (points .entry)) (now (line .entry)) (now (line .exit)) (length (now (segments .entry)) / 2) r × (3 * r .held .count ≤ length (now (points .entry))) ⌝ }
+    ensures { λ r.
+        let ws = now (segments .entry) in
+        let xs = now (points .entry) in
+        ⌜ Joins ws xs (now (line .entry)) (now (line .exit)) (length ws / 2) r × (3 * r .ring .count ≤ length xs) ⌝ }
 {
-    let none = Held {
+    let none = RingSoFar {
         count: 0,
         last: Point {
             x: 0.0,
@@ -400,7 +430,7 @@ fn join(segments: &[u32], points: &[f32], line: &mut [f32]) -> Joined
         squares: 0.0,
     };
     let mut j = Joined {
-        held: none,
+        ring: none,
         segments: 0,
         gap: gap,
     };
@@ -479,7 +509,13 @@ fn put_ring(ring: &[f32], back: bool, out: &mut [f32]) -> usize
 // The answer for a ring that was joined with the greatest gap given.
 fn finish(ring: &[f32], gap: f32, dropped: usize, out: &mut [f32]) -> OutlineAnswer
     requires { ⌜ length (now ring) < 2 ^ 60 ⌝ }
-    ensures { λ r. ⌜ ((ws : List ℕ) (xs : List Float) → outlineFault ws xs ≡ fine → now (ring .entry) ≡ flat (wholeLine ws xs .ring) → gap ≡ wholeLine ws xs .gap → dropped ≡ droppedOf ws → Outlines ws xs (now (out .entry)) (now (out .exit)) r) ⌝ }
+    ensures { λ r.
+        ⌜ ((ws : List ℕ) (xs : List Float) →
+        outlineFault ws xs ≡ fine →
+        now (ring .entry) ≡ flat (wholeLine ws xs .ring) →
+        gap ≡ wholeLine ws xs .gap →
+        dropped ≡ droppedOf ws →
+        Outlines ws xs (now (out .entry)) (now (out .exit)) r) ⌝ }
 {
     let count = open_count(ring);
     let size = 3 * count;
@@ -505,13 +541,17 @@ fn finish(ring: &[f32], gap: f32, dropped: usize, out: &mut [f32]) -> OutlineAns
 fn outline_limits(segments: &[u32], points: &[f32]) -> Check
     ensures { λ r. ⌜ found r ≡ outlineLimits (now (segments .entry)) (now (points .entry)) ⌝ }
 {
-    let after = oversize_if(3 * 4096 < points.len(), 4096, Check::Fine);
-    oversize_if(2 * 256 < segments.len(), 256, after)
+    let after = oversize_if(
+        3 * MAX_BOUNDARY_POINTS < points.len(),
+        MAX_BOUNDARY_POINTS,
+        Check::Fine,
+    );
+    oversize_if(2 * MAX_SEGMENTS < segments.len(), MAX_SEGMENTS, after)
 }
 
 // Which list is ragged, if any is.
 fn outline_ragged(segments: &[u32], points: &[f32]) -> Check
-    requires { ⌜ length (now segments) ≤ 512 ⌝ }
+    requires { ⌜ length (now segments) ≤ 2 * maxSegments ⌝ }
     ensures { λ r. ⌜ found r ≡ outlineRagged (now (segments .entry)) (now (points .entry)) ⌝ }
 {
     let bad = any_bad(segments, 2, 0, points.len() / 3, segments.len() / 2);
@@ -537,8 +577,8 @@ fn ring_in(segments: &[u32], points: &[f32], line: &mut [f32], out: &mut [f32]) 
     ensures { λ r. ⌜ Outlines (now (segments .entry)) (now (points .entry)) (now (out .entry)) (now (out .exit)) r ⌝ }
 {
     let j = join(segments, points, line);
-    let held = j.held;
-    let size = 3 * held.count;
+    let ring = j.ring;
+    let size = 3 * ring.count;
     let dropped = segments.len() / 2 - j.segments;
     let gap = j.gap;
     finish(&line[..size], gap.root, dropped, out)
@@ -550,16 +590,19 @@ fn ring_of_many(segments: &[u32], points: &[f32], out: &mut [f32]) -> OutlineAns
     requires { ⌜ outlineFault (now segments) (now points) ≡ fine ⌝ }
     ensures { λ r. ⌜ Outlines (now (segments .entry)) (now (points .entry)) (now (out .entry)) (now (out .exit)) r ⌝ }
 {
-    let mut line = [0.0f32; 12288];
+    let mut line = [0.0f32; 3 * MAX_BOUNDARY_POINTS];
     ring_in(segments, points, &mut line, out)
 }
+
+// How many coordinates are few: those of 256 points.
+const FEW: usize = 768;
 
 fn ring_of_few(segments: &[u32], points: &[f32], out: &mut [f32]) -> OutlineAnswer
     requires { ⌜ outlineFault (now segments) (now points) ≡ fine ⌝ }
     requires { ⌜ length (now points) ≤ 768 ⌝ }
     ensures { λ r. ⌜ Outlines (now (segments .entry)) (now (points .entry)) (now (out .entry)) (now (out .exit)) r ⌝ }
 {
-    let mut line = [0.0f32; 768];
+    let mut line = [0.0f32; FEW];
     ring_in(segments, points, &mut line, out)
 }
 
@@ -572,7 +615,7 @@ pub fn ring(segments: &[u32], points: &[f32], out: &mut [f32]) -> OutlineAnswer
     if let Check::Faulty(r) = fault {
         return OutlineAnswer::Refused(r);
     }
-    if points.len() <= 768 {
+    if points.len() <= FEW {
         return ring_of_few(segments, points, out);
     }
     ring_of_many(segments, points, out)

@@ -3,18 +3,58 @@
 // proof about indices; the checks of lists stand here alone.
 ghost use mathlib.Core.Path.{_≡_};
 ghost use mathlib.Core.Bool.{_||_, _&&_, not};
-ghost use Prim.Native.Nat.{_+_, _-_, _*_, _/_, _%_, _^_, _≤_, _<_, min};
-ghost use lib.Dec.{ltb, eqb};
+ghost use Prim.Native.Nat.{_+_, _-_, _*_, _/_, _%_, _^_, _<_, min};
 ghost use lib.ListN.{length, getD, take, drop};
 ghost use Rattle.shape.specs.Gather.{any};
 ghost use Rattle.shape.specs.Refusal.{found};
-ghost use Rattle.shape.specs.Lists.{longer, uneven, wordOf, lastEnd, runBad, runLong, pointAt, vectorAt, meshLists, meshLimits, meshRagged, meshFault};
+ghost use Rattle.shape.specs.Lists.{spanWords, verticesWord, indicesWord, wordOf, lastEnd, runBad, runLong, pointAt, vectorAt, meshLists, meshLimits, meshRagged, meshFault};
 use crate::refusal::Check;
 use crate::refusal::oversize_if;
 use crate::refusal::ragged_if;
 use rounding::bits::wide;
 use vector::coords::Point;
 use vector::coords::Vector;
+
+// ---- document 01's limits: `maxLanePoints` and so on in the definitions
+
+// A lane's points, tangents, widths or banks, and how many lanes.
+pub const MAX_LANE_POINTS: usize = 4096;
+
+pub const MAX_LANES: usize = 1024;
+
+// A boundary: its segments and its points.
+pub const MAX_SEGMENTS: usize = 256;
+
+pub const MAX_BOUNDARY_POINTS: usize = 4096;
+
+// The points of a ring to clip.
+pub const MAX_RING: usize = 1024;
+
+// A grid: its rows, and the heights on each side of a row.
+pub const MAX_ROWS: usize = 1024;
+
+pub const MAX_SIDE: usize = 1024;
+
+// A mesh. The limit of normals is that of vertices.
+pub const MAX_VERTICES: usize = 65536;
+
+pub const MAX_INDICES: usize = 196608;
+
+pub const MAX_SPANS: usize = 1024;
+
+// ---- the words of a span: its lane's id, the start and the end of its vertices, and of its indices
+
+pub const SPAN_WORDS: usize = 5;
+
+pub const SPAN_ID: usize = 0;
+
+const SPAN_VERTICES: usize = 1;
+
+const SPAN_VERTICES_END: usize = 2;
+
+pub const SPAN_INDICES: usize = 3;
+
+pub const SPAN_INDICES_END: usize = 4;
 
 // ---- tests taken together, with no branch between them
 
@@ -39,18 +79,27 @@ pub fn word_at(xs: &[u32], i: usize) -> usize
     if i < xs.len() { xs[i] as usize } else { 0 }
 }
 
-// Point i of a list of coordinates; the origin where the list does not hold it whole.
+// Point i of a list of coordinates that is known to hold it whole. Nothing is tested, so the loop over the
+// points that may block an ear reads by this.
+pub(crate) fn whole_point(xs: &[f32], i: usize) -> Point
+    requires { ⌜ 3 * i + 2 < length (now xs) ⌝ }
+    ensures { λ r. ⌜ r ≡ pointAt (now (xs .entry)) i ⌝ }
+{
+    let at = 3 * i;
+    Point {
+        x: xs[at],
+        y: xs[at + 1],
+        z: xs[at + 2],
+    }
+}
+
+// Point i of any list of coordinates; the origin where the list does not hold it whole.
 pub fn point_at(xs: &[f32], i: usize) -> Point
     ensures { λ r. ⌜ r ≡ pointAt (now (xs .entry)) i ⌝ }
 {
     let n = xs.len() / 3;
     if i < n {
-        let at = 3 * i;
-        return Point {
-            x: xs[at],
-            y: xs[at + 1],
-            z: xs[at + 2],
-        };
+        return whole_point(xs, i);
     }
     Point {
         x: 0.0,
@@ -208,18 +257,18 @@ pub(crate) fn any_long(ws: &[u32], width: usize, a: usize, limit: usize, m: usiz
 // keep within n vertices and k indices? The single lookup asks this at every point, so in one pass that
 // is left where it fails.
 fn runs_rise(spans: &[u32], n: usize, k: usize) -> bool
-    ensures { λ r. let ss = now (spans .entry) in let m = length ss / 5 in ⌜ r ≡ not (any (runBad 5 1 ss n) m || any (runBad 5 3 ss k) m) ⌝ }
+    ensures { λ r. let ss = now (spans .entry) in let m = length ss / spanWords in ⌜ r ≡ not (any (runBad spanWords verticesWord ss n) m || any (runBad spanWords indicesWord ss k) m) ⌝ }
 {
-    let m = spans.len() / 5;
+    let m = spans.len() / SPAN_WORDS;
     let mut vertex: usize = 0;
     let mut index: usize = 0;
     let mut i: usize = 0;
     while i < m {
-        let at = 5 * i;
-        let a = wide(spans[at + 1]);
-        let b = wide(spans[at + 2]);
-        let c = wide(spans[at + 3]);
-        let d = wide(spans[at + 4]);
+        let at = SPAN_WORDS * i;
+        let a = wide(spans[at + SPAN_VERTICES]);
+        let b = wide(spans[at + SPAN_VERTICES_END]);
+        let c = wide(spans[at + SPAN_INDICES]);
+        let d = wide(spans[at + SPAN_INDICES_END]);
         if a < vertex {
             return false;
         }
@@ -246,10 +295,10 @@ fn runs_rise(spans: &[u32], n: usize, k: usize) -> bool
 pub fn mesh_limits(vertices: &[f32], normals: &[f32], indices: &[u32], spans: &[u32]) -> Check
     ensures { λ r. let m = meshLists (now (vertices .entry)) (now (normals .entry)) (now (indices .entry)) (now (spans .entry)) in ⌜ found r ≡ meshLimits m ⌝ }
 {
-    let after = oversize_if(5 * 1024 < spans.len(), 1024, Check::Fine);
-    let after = oversize_if(196608 < indices.len(), 196608, after);
-    let after = oversize_if(3 * 65536 < normals.len(), 65536, after);
-    oversize_if(3 * 65536 < vertices.len(), 65536, after)
+    let after = oversize_if(SPAN_WORDS * MAX_SPANS < spans.len(), MAX_SPANS, Check::Fine);
+    let after = oversize_if(MAX_INDICES < indices.len(), MAX_INDICES, after);
+    let after = oversize_if(3 * MAX_VERTICES < normals.len(), MAX_VERTICES, after);
+    oversize_if(3 * MAX_VERTICES < vertices.len(), MAX_VERTICES, after)
 }
 
 // Which list of a mesh is ragged, if any is, where the mesh's lists stand in the call from `first` on.
@@ -265,7 +314,7 @@ pub fn mesh_ragged(
     let p = wide(first);
     let rise = runs_rise(spans, vertices.len() / 3, indices.len());
     let after = ragged_if(!rise, p + 3, Check::Fine);
-    let after = ragged_if(spans.len() % 5 != 0, p + 3, after);
+    let after = ragged_if(spans.len() % SPAN_WORDS != 0, p + 3, after);
     let after = ragged_if(normals.len() % 3 != 0, p + 1, after);
     ragged_if(vertices.len() % 3 != 0, p, after)
 }

@@ -1,11 +1,16 @@
 // Lent memory: whether a mesh has room in it, and what is put into it.
 ghost use mathlib.Core.Path.{_≡_};
 ghost use mathlib.Core.List.{[], _∷_};
-ghost use Prim.Native.Nat.{_^_, _<_};
+ghost use Prim.Native.Nat.{_+_, _^_, _≤_, _<_};
 ghost use lib.ListN.{length};
 ghost use lib.Seq.{sets};
+ghost use Rattle.shape.specs.Memory.{Put};
 ghost use Rattle.shape.specs.Refusal.{found};
 ghost use Rattle.shape.specs.MeshMemory.{resultLimits, resultShort, roomFault};
+use crate::lists::MAX_INDICES;
+use crate::lists::MAX_SPANS;
+use crate::lists::MAX_VERTICES;
+use crate::lists::SPAN_WORDS;
 use crate::refusal::Check;
 use crate::refusal::oversize_if;
 use crate::refusal::short_if;
@@ -22,10 +27,10 @@ pub(crate) struct Lengths {
 fn result_limits(made: Lengths) -> Check
     ensures { λ r. ⌜ found r ≡ resultLimits made ⌝ }
 {
-    let spans = oversize_if(5 * 1024 < made.spans, 1024, Check::Fine);
-    let indices = oversize_if(196608 < made.indices, 196608, spans);
-    let normals = oversize_if(3 * 65536 < made.normals, 65536, indices);
-    oversize_if(3 * 65536 < made.vertices, 65536, normals)
+    let spans = oversize_if(SPAN_WORDS * MAX_SPANS < made.spans, MAX_SPANS, Check::Fine);
+    let indices = oversize_if(MAX_INDICES < made.indices, MAX_INDICES, spans);
+    let normals = oversize_if(3 * MAX_VERTICES < made.normals, MAX_VERTICES, indices);
+    oversize_if(3 * MAX_VERTICES < made.vertices, MAX_VERTICES, normals)
 }
 
 // Outputs too short for it.
@@ -55,4 +60,15 @@ pub(crate) fn put_word(out: &mut [u32], at: usize, v: usize)
     ensures { λ r. ⌜ now (out .exit) ≡ sets (now (out .entry)) at (v ∷ []) ⌝ }
 {
     out[at] = v as u32;
+}
+
+// Three singles into the memory.
+pub(crate) fn put_singles(out: &mut [f32], at: usize, x: f32, y: f32, z: f32) -> usize
+    requires { ⌜ at + 3 ≤ length (now out) ⌝ }
+    ensures { λ r. ⌜ Put (now (out .entry)) (now (out .exit)) at (x ∷ y ∷ z ∷ []) r ⌝ }
+{
+    out[at] = x;
+    out[at + 1] = y;
+    out[at + 2] = z;
+    at + 3
 }

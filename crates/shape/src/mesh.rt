@@ -8,10 +8,14 @@ ghost use lib.ListN.{length};
 ghost use Rattle.vector.specs.Single.{single};
 ghost use Rattle.shape.specs.Gather.{any};
 ghost use Rattle.shape.specs.Refusal.{found, fine};
-ghost use Rattle.shape.specs.Lists.{wordOf, runLong, meshLists};
+ghost use Rattle.shape.specs.Lists.{maxLanePoints, maxLanes, wordOf, runLong, meshLists};
 ghost use Rattle.shape.specs.MeshMemory.{lengthsOf, roomFault, leavesMesh};
+ghost use Rattle.shape.specs.SurfaceMesh.{laneWords, idWord, pointsWord, widthWord};
 ghost use Rattle.shape.specs.SurfaceMesh.{given, laneRun, laneAt, laneLimits, runsRagged, laneRagged, inputFault, meshOf, countsOf, readMesh, callFault, answerOf};
 ghost use Rattle.shape.specs.MeshSteps.{lengthsAt, Grown, Topped, Enough, Sizes, Room, Wrote, Written, Fitting};
+use crate::lists::MAX_LANE_POINTS;
+use crate::lists::MAX_LANES;
+use crate::lists::SPAN_WORDS;
 use crate::lists::any_bad;
 use crate::lists::any_long;
 use crate::lists::part;
@@ -27,6 +31,25 @@ use crate::strip::put_strip;
 use crate::strip::size_strip;
 use rounding::bits::from_bits32;
 
+// ---- the words of a lane: its id; the start and the end of its points, of its tangents, of its widths and of
+// its banks; the bits of its default width
+
+const LANE_WORDS: usize = 10;
+
+const LANE_ID: usize = 0;
+
+const LANE_POINTS: usize = 1;
+
+const LANE_POINTS_END: usize = 2;
+
+const LANE_TANGENTS: usize = 3;
+
+const LANE_WIDTHS: usize = 5;
+
+const LANE_BANKS: usize = 7;
+
+const LANE_WIDTH: usize = 9;
+
 // ---- all lanes
 
 // Lane k's run of a list whose elements are of u numbers. Word a of the lane is its start.
@@ -34,16 +57,16 @@ fn lane_run<'a, 'b>(u: usize, xs: &'a [f32], lanes: &'b [u32], a: usize, k: usiz
     requires { ⌜ (k < 2 ^ 58) × (a < 8) × (u < 4) ⌝ }
     ensures { λ r. ⌜ now r ≡ laneRun u (now (xs .entry)) (now (lanes .entry)) a k ⌝ }
 {
-    let s = u * record_word(lanes, 10, k, a);
-    let e = u * record_word(lanes, 10, k, a + 1);
+    let s = u * record_word(lanes, LANE_WORDS, k, a);
+    let e = u * record_word(lanes, LANE_WORDS, k, a + 1);
     part(xs, s, e)
 }
 
 fn default_width(lanes: &[u32], k: usize) -> f32
     requires { ⌜ k < 2 ^ 58 ⌝ }
-    ensures { λ r. ⌜ r ≡ single (wordOf 10 (now (lanes .entry)) k 9) ⌝ }
+    ensures { λ r. ⌜ r ≡ single (wordOf laneWords (now (lanes .entry)) k widthWord) ⌝ }
 {
-    from_bits32(record_word(lanes, 10, k, 9) as u32)
+    from_bits32(record_word(lanes, LANE_WORDS, k, LANE_WIDTH) as u32)
 }
 
 // The sizes with lane k.
@@ -57,13 +80,14 @@ fn size_lane(
     kept: &mut [u32],
     at: At,
 ) -> At
-    requires { ⌜ (k < 2 ^ 58) × (runLong 10 1 (now lanes) 4096 k ≡ false) × (length (now kept) ≡ 4096) × (at .floats < 2 ^ 60) × (at .index < 2 ^ 60) × (at .word < 2 ^ 60) ⌝ }
+    requires { ⌜ (k < 2 ^ 58) × (runLong laneWords pointsWord (now lanes) maxLanePoints k ≡ false) × (length (now kept) ≡ maxLanePoints)
+        × (at .floats < 2 ^ 60) × (at .index < 2 ^ 60) × (at .word < 2 ^ 60) ⌝ }
     ensures { λ r. ⌜ Grown (laneAt (given (now (points .entry)) (now (tangents .entry)) (now (widths .entry)) (now (banks .entry)) (now (lanes .entry))) k) at r ⌝ }
 {
-    let p = lane_run(3, points, lanes, 1, k);
-    let t = lane_run(3, tangents, lanes, 3, k);
-    let w = lane_run(1, widths, lanes, 5, k);
-    let b = lane_run(2, banks, lanes, 7, k);
+    let p = lane_run(3, points, lanes, LANE_POINTS, k);
+    let t = lane_run(3, tangents, lanes, LANE_TANGENTS, k);
+    let w = lane_run(1, widths, lanes, LANE_WIDTHS, k);
+    let b = lane_run(2, banks, lanes, LANE_BANKS, k);
     size_strip(p, t, w, b, default_width(lanes, k), kept, at)
 }
 
@@ -82,19 +106,21 @@ fn put_lane(
     indices: &mut [u32],
     spans: &mut [u32],
 ) -> At
-    requires { ⌜ (k < 2 ^ 58) × (runLong 10 1 (now lanes) 4096 k ≡ false) × (length (now kept) ≡ 4096) ⌝ }
+    requires { ⌜ (k < 2 ^ 58) × (runLong laneWords pointsWord (now lanes) maxLanePoints k ≡ false) × (length (now kept) ≡ maxLanePoints) ⌝ }
     requires { ⌜ Room (laneAt (given (now points) (now tangents) (now widths) (now banks) (now lanes)) k) at (now vertices) (now normals) (now indices) (now spans) ⌝ }
     ensures { λ r.
         let g = given (now (points .entry)) (now (tangents .entry)) (now (widths .entry)) (now (banks .entry)) (now (lanes .entry)) in
-        let id = wordOf 10 (now (lanes .entry)) k 0 in
-        ⌜ Wrote (laneAt g k) id at r (now (vertices .entry)) (now (vertices .exit)) (now (normals .entry)) (now (normals .exit)) (now (indices .entry)) (now (indices .exit)) (now (spans .entry)) (now (spans .exit)) ⌝ }
+        let id = wordOf laneWords (now (lanes .entry)) k idWord in
+        ⌜ Wrote (laneAt g k) id at r
+        (now (vertices .entry)) (now (vertices .exit)) (now (normals .entry)) (now (normals .exit))
+        (now (indices .entry)) (now (indices .exit)) (now (spans .entry)) (now (spans .exit)) ⌝ }
 {
-    let p = lane_run(3, points, lanes, 1, k);
-    let t = lane_run(3, tangents, lanes, 3, k);
-    let w = lane_run(1, widths, lanes, 5, k);
-    let b = lane_run(2, banks, lanes, 7, k);
+    let p = lane_run(3, points, lanes, LANE_POINTS, k);
+    let t = lane_run(3, tangents, lanes, LANE_TANGENTS, k);
+    let w = lane_run(1, widths, lanes, LANE_WIDTHS, k);
+    let b = lane_run(2, banks, lanes, LANE_BANKS, k);
     let width = default_width(lanes, k);
-    let id = record_word(lanes, 10, k, 0);
+    let id = record_word(lanes, LANE_WORDS, k, LANE_ID);
     put_strip(
         p,
         t,
@@ -120,10 +146,10 @@ fn totals(
     lanes: &[u32],
     n: usize,
 ) -> At
-    requires { ⌜ (n ≤ 1024) × (any (runLong 10 1 (now lanes) 4096) n ≡ false) ⌝ }
+    requires { ⌜ (n ≤ maxLanes) × (any (runLong laneWords pointsWord (now lanes) maxLanePoints) n ≡ false) ⌝ }
     ensures { λ r. ⌜ Sizes (given (now (points .entry)) (now (tangents .entry)) (now (widths .entry)) (now (banks .entry)) (now (lanes .entry))) n r ⌝ }
 {
-    let mut kept = [0u32; 4096];
+    let mut kept = [0u32; MAX_LANE_POINTS];
     let mut at = At {
         floats: 0,
         index: 0,
@@ -139,16 +165,16 @@ fn totals(
 
 // The most that lane k can add to the sizes: a rib for each point, or two.
 fn most_lane(lanes: &[u32], k: usize, at: At) -> At
-    requires { ⌜ (k < 2 ^ 58) × (runLong 10 1 (now lanes) 4096 k ≡ false) × (at .floats < 2 ^ 60) × (at .index < 2 ^ 60) × (at .word < 2 ^ 60) ⌝ }
+    requires { ⌜ (k < 2 ^ 58) × (runLong laneWords pointsWord (now lanes) maxLanePoints k ≡ false) × (at .floats < 2 ^ 60) × (at .index < 2 ^ 60) × (at .word < 2 ^ 60) ⌝ }
     ensures { λ r. ⌜ Topped (now (lanes .entry)) k at r ⌝ }
 {
-    let s = record_word(lanes, 10, k, 1);
-    let e = record_word(lanes, 10, k, 2);
+    let s = record_word(lanes, LANE_WORDS, k, LANE_POINTS);
+    let e = record_word(lanes, LANE_WORDS, k, LANE_POINTS_END);
     let n = at_least_two(s, e);
     At {
         floats: at.floats + 6 * n,
         index: at.index + 6 * (n - 1),
-        word: at.word + 5,
+        word: at.word + SPAN_WORDS,
     }
 }
 
@@ -162,7 +188,7 @@ fn at_least_two(s: usize, e: usize) -> usize
 
 // The most that the first n lanes can give.
 fn most_sizes(lanes: &[u32], n: usize) -> At
-    requires { ⌜ (n ≤ 1024) × (any (runLong 10 1 (now lanes) 4096) n ≡ false) ⌝ }
+    requires { ⌜ (n ≤ maxLanes) × (any (runLong laneWords pointsWord (now lanes) maxLanePoints) n ≡ false) ⌝ }
     ensures { λ r. ⌜ ((ps ts ws bs : List Float) → Enough (given ps ts ws bs (now (lanes .entry))) n r) ⌝ }
 {
     let mut at = At {
@@ -191,13 +217,15 @@ fn put_lanes(
     indices: &mut [u32],
     spans: &mut [u32],
 ) -> At
-    requires { ⌜ (n ≤ 1024) × (any (runLong 10 1 (now lanes) 4096) n ≡ false) ⌝ }
+    requires { ⌜ (n ≤ maxLanes) × (any (runLong laneWords pointsWord (now lanes) maxLanePoints) n ≡ false) ⌝ }
     requires { ⌜ Fitting (given (now points) (now tangents) (now widths) (now banks) (now lanes)) n (now vertices) (now normals) (now indices) (now spans) ⌝ }
     ensures { λ r.
         let g = given (now (points .entry)) (now (tangents .entry)) (now (widths .entry)) (now (banks .entry)) (now (lanes .entry)) in
-        ⌜ Written g n r (now (vertices .entry)) (now (vertices .exit)) (now (normals .entry)) (now (normals .exit)) (now (indices .entry)) (now (indices .exit)) (now (spans .entry)) (now (spans .exit)) ⌝ }
+        ⌜ Written g n r
+        (now (vertices .entry)) (now (vertices .exit)) (now (normals .entry)) (now (normals .exit))
+        (now (indices .entry)) (now (indices .exit)) (now (spans .entry)) (now (spans .exit)) ⌝ }
 {
-    let mut kept = [0u32; 4096];
+    let mut kept = [0u32; MAX_LANE_POINTS];
     let mut at = At {
         floats: 0,
         index: 0,
@@ -246,7 +274,7 @@ fn counts(made: Lengths) -> MeshCounts
         vertices: made.vertices / 3,
         normals: made.normals / 3,
         indices: made.indices,
-        spans: made.spans / 5,
+        spans: made.spans / SPAN_WORDS,
     }
 }
 
@@ -266,12 +294,28 @@ fn lengths_at(at: At) -> Lengths
 fn lane_limits(lanes: &[u32]) -> Check
     ensures { λ r. ⌜ found r ≡ laneLimits (now (lanes .entry)) ⌝ }
 {
-    let n = lanes.len() / 10;
-    let many = oversize_if(10 * 1024 < lanes.len(), 1024, Check::Fine);
-    let banks = oversize_if(any_long(lanes, 10, 7, 4096, n), 4096, many);
-    let widths = oversize_if(any_long(lanes, 10, 5, 4096, n), 4096, banks);
-    let tangents = oversize_if(any_long(lanes, 10, 3, 4096, n), 4096, widths);
-    oversize_if(any_long(lanes, 10, 1, 4096, n), 4096, tangents)
+    let n = lanes.len() / LANE_WORDS;
+    let many = oversize_if(LANE_WORDS * MAX_LANES < lanes.len(), MAX_LANES, Check::Fine);
+    let banks = oversize_if(
+        any_long(lanes, LANE_WORDS, LANE_BANKS, MAX_LANE_POINTS, n),
+        MAX_LANE_POINTS,
+        many,
+    );
+    let widths = oversize_if(
+        any_long(lanes, LANE_WORDS, LANE_WIDTHS, MAX_LANE_POINTS, n),
+        MAX_LANE_POINTS,
+        banks,
+    );
+    let tangents = oversize_if(
+        any_long(lanes, LANE_WORDS, LANE_TANGENTS, MAX_LANE_POINTS, n),
+        MAX_LANE_POINTS,
+        widths,
+    );
+    oversize_if(
+        any_long(lanes, LANE_WORDS, LANE_POINTS, MAX_LANE_POINTS, n),
+        MAX_LANE_POINTS,
+        tangents,
+    )
 }
 
 // Runs out of order or past their lists.
@@ -284,11 +328,27 @@ fn runs_ragged(
 ) -> Check
     ensures { λ r. let g = given (now (points .entry)) (now (tangents .entry)) (now (widths .entry)) (now (banks .entry)) (now (lanes .entry)) in ⌜ found r ≡ runsRagged g ⌝ }
 {
-    let n = lanes.len() / 10;
-    let of_banks = ragged_if(any_bad(lanes, 10, 7, banks.len() / 2, n), 4, Check::Fine);
-    let of_widths = ragged_if(any_bad(lanes, 10, 5, widths.len(), n), 4, of_banks);
-    let of_tangents = ragged_if(any_bad(lanes, 10, 3, tangents.len() / 3, n), 4, of_widths);
-    ragged_if(any_bad(lanes, 10, 1, points.len() / 3, n), 4, of_tangents)
+    let n = lanes.len() / LANE_WORDS;
+    let of_banks = ragged_if(
+        any_bad(lanes, LANE_WORDS, LANE_BANKS, banks.len() / 2, n),
+        4,
+        Check::Fine,
+    );
+    let of_widths = ragged_if(
+        any_bad(lanes, LANE_WORDS, LANE_WIDTHS, widths.len(), n),
+        4,
+        of_banks,
+    );
+    let of_tangents = ragged_if(
+        any_bad(lanes, LANE_WORDS, LANE_TANGENTS, tangents.len() / 3, n),
+        4,
+        of_widths,
+    );
+    ragged_if(
+        any_bad(lanes, LANE_WORDS, LANE_POINTS, points.len() / 3, n),
+        4,
+        of_tangents,
+    )
 }
 
 // Lists not in their units, and such runs.
@@ -302,7 +362,7 @@ fn lane_ragged(
     ensures { λ r. let g = given (now (points .entry)) (now (tangents .entry)) (now (widths .entry)) (now (banks .entry)) (now (lanes .entry)) in ⌜ found r ≡ laneRagged g ⌝ }
 {
     let runs = runs_ragged(points, tangents, widths, banks, lanes);
-    let of_lanes = ragged_if(lanes.len() % 10 != 0, 4, runs);
+    let of_lanes = ragged_if(lanes.len() % LANE_WORDS != 0, 4, runs);
     let of_banks = ragged_if(banks.len() % 2 != 0, 3, of_lanes);
     let of_tangents = ragged_if(tangents.len() % 3 != 0, 1, of_banks);
     ragged_if(points.len() % 3 != 0, 0, of_tangents)
@@ -336,9 +396,11 @@ fn mesh_room(
     lent: Lengths,
 ) -> Check
     requires { let g = given (now points) (now tangents) (now widths) (now banks) (now lanes) in ⌜ inputFault g ≡ fine ⌝ }
-    ensures { λ r. let g = given (now (points .entry)) (now (tangents .entry)) (now (widths .entry)) (now (banks .entry)) (now (lanes .entry)) in ⌜ found r ≡ roomFault (lengthsOf (meshOf g)) lent ⌝ }
+    ensures { λ r.
+        let g = given (now (points .entry)) (now (tangents .entry)) (now (widths .entry)) (now (banks .entry)) (now (lanes .entry)) in
+        ⌜ found r ≡ roomFault (lengthsOf (meshOf g)) lent ⌝ }
 {
-    let n = lanes.len() / 10;
+    let n = lanes.len() / LANE_WORDS;
     let most = lengths_at(most_sizes(lanes, n));
     let f = room_fault(most, lent);
     match f {
@@ -402,7 +464,7 @@ pub fn surface_mesh(
     match f {
         Check::Faulty(r) => MeshAnswer::Refused(r),
         Check::Fine => {
-            let n = lanes.len() / 10;
+            let n = lanes.len() / LANE_WORDS;
             let at = put_lanes(
                 points,
                 tangents,

@@ -1,5 +1,6 @@
 // Why a call is turned back: a case for each word of document 01's table, with the place that it names.
 ghost use mathlib.Core.Path.{_≡_};
+ghost use Prim.Native.Nat.{_<_};
 ghost use Rattle.shape.specs.Refusal.{numberOf, placeOf, found, refuse, orElse};
 
 pub enum Refusal {
@@ -21,30 +22,49 @@ pub enum Check {
     Faulty(Refusal),
 }
 
-// The refusal's number in document 01's table.
-pub fn number(r: Refusal) -> u32
-    ensures { λ n. ⌜ n ≡ numberOf r ⌝ }
+// A refusal as the caller is told it: its number in document 01's table, and the place that it names.
+pub struct Reason {
+    pub number: u32,
+    pub place: usize,
+}
+
+pub fn reason_of(r: Refusal) -> Reason
+    ensures { λ w. ⌜ (w .number ≡ numberOf r) × (w .place ≡ placeOf r) × (w .number < 6) ⌝ }
 {
     match r {
-        Refusal::Oversize(limit) => 1,
-        Refusal::Ragged(list) => 2,
-        Refusal::ShortOutput(wanted) => 3,
-        Refusal::ForeignIndex(word) => 4,
-        Refusal::BadRecord(record) => 5,
+        Refusal::Oversize(limit) => Reason {
+            number: 1,
+            place: limit,
+        },
+        Refusal::Ragged(list) => Reason {
+            number: 2,
+            place: list,
+        },
+        Refusal::ShortOutput(wanted) => Reason {
+            number: 3,
+            place: wanted,
+        },
+        Refusal::ForeignIndex(word) => Reason {
+            number: 4,
+            place: word,
+        },
+        Refusal::BadRecord(record) => Reason {
+            number: 5,
+            place: record,
+        },
     }
 }
 
-// The place that it names.
+pub fn number(r: Refusal) -> u32
+    ensures { λ n. ⌜ n ≡ numberOf r ⌝ }
+{
+    reason_of(r).number
+}
+
 pub fn place(r: Refusal) -> usize
     ensures { λ n. ⌜ n ≡ placeOf r ⌝ }
 {
-    match r {
-        Refusal::Oversize(limit) => limit,
-        Refusal::Ragged(list) => list,
-        Refusal::ShortOutput(wanted) => wanted,
-        Refusal::ForeignIndex(word) => word,
-        Refusal::BadRecord(record) => record,
-    }
+    reason_of(r).place
 }
 
 // ---- faults in a chain: each call puts one test before what comes after it, so that a check reads as its

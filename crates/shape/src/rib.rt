@@ -4,11 +4,12 @@
 // would pass the next inner one and fold the strip, so it is drawn in (pinched), while the outer one keeps
 // its distance.
 ghost use mathlib.Core.Path.{_≡_};
-ghost use mathlib.Core.Bool.{true, _&&_};
+ghost use mathlib.Core.Bool.{true};
 ghost use Prim.Native.Nat.{min, _^_, _+_, _-_, _<_};
 ghost use Rattle.vector.specs.Coords.{vectorAdd, normalizeOr, normalizeOrZero};
 ghost use Rattle.shape.specs.Strip.{laneOf, keptPoint, legOf, noLeg, legIn, legOut, alongOf, gradeOf, slopeOf, lateralOf, halfOf, eatSquareOf, turnsLeft, spreadOf, ribAt};
 ghost use Rattle.shape.specs.MeshSteps.{Mild, walkAt};
+use crate::lists::both;
 use crate::lists::point_at;
 use crate::lists::single_or;
 use crate::lists::vector_at;
@@ -84,8 +85,8 @@ fn leg_out(points: &[f32], ks: &[u32], i: usize) -> Leg
     no_leg()
 }
 
-// Between the ways of the two legs.
-fn between(inc: Vector, out: Vector) -> Vector
+// The direction halfway between the ways of the two legs.
+fn bisector(inc: Vector, out: Vector) -> Vector
     ensures { λ r. ⌜ r ≡ normalizeOrZero (vectorAdd inc out) ⌝ }
 {
     inc.add(out).normalize_or_zero()
@@ -101,9 +102,9 @@ fn along_any(t: Vector, inc: Vector, out: Vector) -> Vector
         if len > 0.0 {
             return t.mul(1.0 / len);
         }
-        return between(inc, out);
+        return bisector(inc, out);
     }
-    between(inc, out)
+    bisector(inc, out)
 }
 
 // Along the lane. Most tangents have about unit length, and their root is the cheap one.
@@ -236,12 +237,6 @@ fn spread_at(corner: bool, inc: Leg, out: Leg, left: Vector, h: f32) -> Spread
         return Spread { left: h, right: h };
     }
     pinched(inc, out, left, h)
-}
-
-fn both(a: bool, b: bool) -> bool
-    ensures { λ r. ⌜ r ≡ (a && b) ⌝ }
-{
-    if a { b } else { false }
 }
 
 // Rib i over the kept points, with the legs into its point and out of it.

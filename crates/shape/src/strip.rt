@@ -5,9 +5,12 @@ ghost use mathlib.Core.List.{[], _∷_};
 ghost use Prim.Native.Nat.{ℕ, _^_, _+_, _*_, _/_, _<_, _≤_};
 ghost use lib.ListN.{length};
 ghost use Rattle.shape.specs.Memory.{Put};
+ghost use Rattle.shape.specs.Lists.{maxLanePoints, spanWords};
 ghost use Rattle.shape.specs.Strip.{laneOf, sixOf, upsOf, noArea, triangleOf, segmentOf, verticesOf, normalsOf, indicesOf};
 ghost use Rattle.shape.specs.SurfaceMesh.{spanOf};
 ghost use Rattle.shape.specs.MeshSteps.{Grown, Room, Wrote};
+use crate::lists::SPAN_WORDS;
+use crate::memory::put_singles;
 use crate::memory::put_word;
 use crate::rib::Rib;
 use crate::rib::no_leg;
@@ -28,13 +31,8 @@ fn put_six(out: &mut [f32], at: usize, a: Point, b: Point) -> usize
     requires { ⌜ at + 6 ≤ length (now out) ⌝ }
     ensures { λ r. ⌜ Put (now (out .entry)) (now (out .exit)) at (sixOf a b) r ⌝ }
 {
-    out[at] = a.x;
-    out[at + 1] = a.y;
-    out[at + 2] = a.z;
-    out[at + 3] = b.x;
-    out[at + 4] = b.y;
-    out[at + 5] = b.z;
-    at + 6
+    let q = put_singles(out, at, a.x, a.y, a.z);
+    put_singles(out, q, b.x, b.y, b.z)
 }
 
 // A normal twice into the memory.
@@ -42,13 +40,8 @@ fn put_ups(out: &mut [f32], at: usize, v: Vector) -> usize
     requires { ⌜ at + 6 ≤ length (now out) ⌝ }
     ensures { λ r. ⌜ Put (now (out .entry)) (now (out .exit)) at (upsOf v) r ⌝ }
 {
-    out[at] = v.x;
-    out[at + 1] = v.y;
-    out[at + 2] = v.z;
-    out[at + 3] = v.x;
-    out[at + 4] = v.y;
-    out[at + 5] = v.z;
-    at + 6
+    let q = put_singles(out, at, v.x, v.y, v.z);
+    put_singles(out, q, v.x, v.y, v.z)
 }
 
 // The two vertices of a rib, left edge first, and their normals.
@@ -106,7 +99,7 @@ fn count_indices(
     width: f32,
     ks: &[u32],
 ) -> usize
-    requires { ⌜ length (now ks) ≤ 4096 ⌝ }
+    requires { ⌜ length (now ks) ≤ maxLanePoints ⌝ }
     ensures { λ r. ⌜ ((v : ℕ) → r ≡ length (indicesOf v (laneOf (now (points .entry)) (now (tangents .entry)) (now (widths .entry)) (now (banks .entry)) width) (now (ks .entry)))) ⌝ }
     ensures { λ r. ⌜ r ≤ 24576 ⌝ }
 {
@@ -144,7 +137,9 @@ fn put_ribs(
     indices: &mut [u32],
     at: At,
 ) -> At
-    requires { ⌜ (0 < length (now ks)) × (at .floats + 6 * length (now ks) ≤ length (now vertices)) × (at .floats + 6 * length (now ks) ≤ length (now normals)) × (at .floats / 3 + 2 * length (now ks) < 4294967290) ⌝ }
+    requires { let n = length (now ks) in
+        ⌜ (0 < n) × (at .floats + 6 * n ≤ length (now vertices)) × (at .floats + 6 * n ≤ length (now normals))
+        × (at .floats / 3 + 2 * n < 4294967290) ⌝ }
     requires { ⌜ at .index + length (indicesOf (at .floats / 3) (laneOf (now points) (now tangents) (now widths) (now banks) width) (now ks)) ≤ length (now indices) ⌝ }
     ensures { λ r.
         let l = laneOf (now (points .entry)) (now (tangents .entry)) (now (widths .entry)) (now (banks .entry)) width in
@@ -174,13 +169,13 @@ fn put_ribs(
 }
 
 fn span_size(n: usize) -> usize
-    ensures { λ r. ⌜ ((id v w i j : ℕ) → r ≡ length (spanOf n id v w i j)) × (r ≤ 5) ⌝ }
+    ensures { λ r. ⌜ ((id v w i j : ℕ) → r ≡ length (spanOf n id v w i j)) × (r ≤ spanWords) ⌝ }
 {
-    if n == 0 { 0 } else { 5 }
+    if n == 0 { 0 } else { SPAN_WORDS }
 }
 
 fn put_span(out: &mut [u32], at: usize, id: usize, v: usize, w: usize, i: usize, j: usize) -> usize
-    requires { ⌜ (at + 5 ≤ length (now out)) × (id < 2 ^ 32) × (v < 2 ^ 32) × (w < 2 ^ 32) × (i < 2 ^ 32) × (j < 2 ^ 32) ⌝ }
+    requires { ⌜ (at + spanWords ≤ length (now out)) × (id < 2 ^ 32) × (v < 2 ^ 32) × (w < 2 ^ 32) × (i < 2 ^ 32) × (j < 2 ^ 32) ⌝ }
     ensures { λ r. ⌜ Put (now (out .entry)) (now (out .exit)) at (id ∷ v ∷ w ∷ i ∷ j ∷ []) r ⌝ }
 {
     put_word(out, at, id);
@@ -188,7 +183,7 @@ fn put_span(out: &mut [u32], at: usize, id: usize, v: usize, w: usize, i: usize,
     put_word(out, at + 2, w);
     put_word(out, at + 3, i);
     put_word(out, at + 4, j);
-    at + 5
+    at + SPAN_WORDS
 }
 
 // The sizes with one more lane. `kept` is room to work in.
@@ -201,7 +196,7 @@ pub(crate) fn size_strip(
     kept: &mut [u32],
     at: At,
 ) -> At
-    requires { ⌜ (length (now points) / 3 ≤ 4096) × (length (now kept) ≡ 4096) × (at .floats < 2 ^ 60) × (at .index < 2 ^ 60) × (at .word < 2 ^ 60) ⌝ }
+    requires { ⌜ (length (now points) / 3 ≤ maxLanePoints) × (length (now kept) ≡ maxLanePoints) × (at .floats < 2 ^ 60) × (at .index < 2 ^ 60) × (at .word < 2 ^ 60) ⌝ }
     ensures { λ r. ⌜ Grown (laneOf (now (points .entry)) (now (tangents .entry)) (now (widths .entry)) (now (banks .entry)) width) at r ⌝ }
 {
     let n = weld(points, kept);
@@ -229,11 +224,13 @@ pub(crate) fn put_strip(
     indices: &mut [u32],
     spans: &mut [u32],
 ) -> At
-    requires { ⌜ (length (now points) / 3 ≤ 4096) × (id < 2 ^ 32) × (length (now kept) ≡ 4096) ⌝ }
+    requires { ⌜ (length (now points) / 3 ≤ maxLanePoints) × (id < 2 ^ 32) × (length (now kept) ≡ maxLanePoints) ⌝ }
     requires { ⌜ Room (laneOf (now points) (now tangents) (now widths) (now banks) width) at (now vertices) (now normals) (now indices) (now spans) ⌝ }
     ensures { λ r.
         let l = laneOf (now (points .entry)) (now (tangents .entry)) (now (widths .entry)) (now (banks .entry)) width in
-        ⌜ Wrote l id at r (now (vertices .entry)) (now (vertices .exit)) (now (normals .entry)) (now (normals .exit)) (now (indices .entry)) (now (indices .exit)) (now (spans .entry)) (now (spans .exit)) ⌝ }
+        ⌜ Wrote l id at r
+        (now (vertices .entry)) (now (vertices .exit)) (now (normals .entry)) (now (normals .exit))
+        (now (indices .entry)) (now (indices .exit)) (now (spans .entry)) (now (spans .exit)) ⌝ }
 {
     let n = weld(points, kept);
     if n == 0 {

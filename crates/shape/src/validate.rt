@@ -1,11 +1,11 @@
 // Whether a mesh can back a physics collider (`Mesh::validate`).
 ghost use mathlib.Core.Path.{_≡_};
-ghost use mathlib.Core.Bool.{true, _&&_};
+ghost use mathlib.Core.Bool.{true};
 ghost use Prim.Native.Nat.{_+_, _*_, _/_, _<_};
 ghost use lib.ListN.{length};
 ghost use Rattle.shape.specs.Gather.{least};
 ghost use Rattle.shape.specs.Refusal.{judge, taken};
-ghost use Rattle.shape.specs.Lists.{pointAt, meshLists, meshFault};
+ghost use Rattle.shape.specs.Lists.{meshLists, meshFault};
 ghost use Rattle.shape.specs.Verdict.{FiniteBelow, unsound, findingOf, flatOr, triplesOf, faultyAt, tell, ofTriangles, validityOf, readVerdict};
 use crate::lists::both;
 use crate::lists::mesh_fault;
@@ -16,7 +16,6 @@ use crate::refusal::Refusal;
 use crate::strip::no_area;
 use rounding::bits::wide;
 use rounding::extremes::is_finite32;
-use vector::coords::Point;
 
 // What `validate` answers, with the counts of the finding.
 pub enum Verdict {
@@ -182,7 +181,7 @@ fn first_faulty(vertices: &[f32], indices: &[u32]) -> usize
 }
 
 // What is found of triangle t, as the verdict on a mesh of n vertices.
-fn told(t: usize, f: Finding, n: usize) -> Verdict
+fn verdict_of(t: usize, f: Finding, n: usize) -> Verdict
     ensures { λ r. ⌜ readVerdict r ≡ taken (tell n t f) ⌝ }
 {
     match f {
@@ -198,7 +197,7 @@ fn of_triangles(vertices: &[f32], indices: &[u32]) -> Verdict
 {
     let t = first_faulty(vertices, indices);
     if t < (indices.len() + 2) / 3 {
-        return told(t, examine(vertices, indices, t), vertices.len() / 3);
+        return verdict_of(t, examine(vertices, indices, t), vertices.len() / 3);
     }
     Verdict::Sound
 }
@@ -219,7 +218,9 @@ fn of_lists(vertices: &[f32], indices: &[u32]) -> Verdict
 
 // The verdict on a mesh in lent lists: the first finding in the order of document 01.
 pub fn validate(vertices: &[f32], normals: &[f32], indices: &[u32], spans: &[u32]) -> Verdict
-    ensures { λ r. ⌜ readVerdict r ≡ judge (meshFault (meshLists (now (vertices .entry)) (now (normals .entry)) (now (indices .entry)) (now (spans .entry)))) (taken (validityOf (now (vertices .entry)) (now (indices .entry)))) ⌝ }
+    ensures { λ r.
+        let m = meshLists (now (vertices .entry)) (now (normals .entry)) (now (indices .entry)) (now (spans .entry)) in
+        ⌜ readVerdict r ≡ judge (meshFault m) (taken (validityOf (m .vertices) (m .indices))) ⌝ }
 {
     let f = mesh_fault(vertices, normals, indices, spans);
     match f {

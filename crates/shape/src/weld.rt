@@ -13,13 +13,13 @@ ghost use lib.ListN.{length};
 ghost use Rattle.rounding.specs.Root.{sqrtOf};
 ghost use Rattle.rounding.specs.Thresholds.{micro};
 ghost use Rattle.shape.specs.Memory.{Put};
-ghost use Rattle.shape.specs.Strip.{stepOf, keepsStep, keeps, lastOf, keptOf};
+ghost use Rattle.shape.specs.Lists.{maxLanePoints};
+ghost use Rattle.shape.specs.Strip.{stepOf, keepsStep, keeps, endKept, keptOf};
 use crate::lists::point_at;
 use crate::memory::put_word;
 use rounding::compare::root_above_tenth;
 use rounding::extremes::max32;
 use rounding::root::sqrt32;
-use vector::coords::Point;
 
 // How far a lane is welded: how many points are kept but for the last, the last, and the square of the
 // step to it.
@@ -109,9 +109,9 @@ fn ends_meet(points: &[f32], e: usize) -> bool
 // ends where the next begins and no seam opens. A lane welded down to one point has both its ends, as one
 // thin quad, if they are apart; a lane of no length has no surface.
 fn weld_end(points: &[f32], kept: &mut [u32], m: usize, e: usize) -> usize
-    requires { ⌜ (m < 4096) × (length (now kept) ≡ 4096) × (e < 2 ^ 32) ⌝ }
-    ensures { λ r. ⌜ Put (now (kept .entry)) (now (kept .exit)) m (lastOf m (lt (stepOf (now (points .entry)) 0 e) micro) e) r ⌝ }
-    ensures { λ r. ⌜ r ≤ 4096 ⌝ }
+    requires { ⌜ (m < maxLanePoints) × (length (now kept) ≡ maxLanePoints) × (e < 2 ^ 32) ⌝ }
+    ensures { λ r. ⌜ Put (now (kept .entry)) (now (kept .exit)) m (endKept m (lt (stepOf (now (points .entry)) 0 e) micro) e) r ⌝ }
+    ensures { λ r. ⌜ r ≤ maxLanePoints ⌝ }
 {
     if m == 0 {
         if ends_meet(points, e) {
@@ -127,9 +127,9 @@ fn weld_end(points: &[f32], kept: &mut [u32], m: usize, e: usize) -> usize
 
 // The numbers of the points kept, written into `kept`, and how many they are.
 pub(crate) fn weld(points: &[f32], kept: &mut [u32]) -> usize
-    requires { ⌜ (length (now points) / 3 ≤ 4096) × (length (now kept) ≡ 4096) ⌝ }
+    requires { ⌜ (length (now points) / 3 ≤ maxLanePoints) × (length (now kept) ≡ maxLanePoints) ⌝ }
     ensures { λ r. ⌜ Put (now (kept .entry)) (now (kept .exit)) 0 (keptOf (now (points .entry)) (length (now (points .entry)) / 3)) r ⌝ }
-    ensures { λ r. ⌜ r ≤ 4096 ⌝ }
+    ensures { λ r. ⌜ r ≤ maxLanePoints ⌝ }
 {
     let n = points.len() / 3;
     if n == 0 {

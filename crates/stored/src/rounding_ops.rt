@@ -13,7 +13,7 @@ use crate::numbers::single;
 use crate::stream::put;
 use rounding::bits::bits32;
 use rounding::bits::bits64;
-use rounding::bits::stored;
+use rounding::bits::stored_word;
 use rounding::compare::hypot_above_milli;
 use rounding::compare::hypot_at_most_milli;
 use rounding::compare::root_above_tenth;
@@ -162,7 +162,7 @@ fn from_single(op: u32, x: f32, made: &mut [u32]) -> usize {
         16 => put_count(made, count32(x)),
         100 => put_single(made, x),
         102 => {
-            put(made, 0, stored(x));
+            put(made, 0, stored_word(x));
             1
         }
         _ => put_test(made, test_single(op, x)),

@@ -4,7 +4,7 @@ ghost use Rattle.stored.specs.Words.{wordAt, getWord, setWord};
 
 // Where the reading stands: `at` of the `held` words in the buffer are handed out, `read` in all, and
 // `spare` bytes, too few for a word, ended the input.
-pub struct Place {
+pub struct Cursor {
     pub at: usize,
     pub held: usize,
     pub spare: usize,
@@ -15,18 +15,18 @@ pub struct Place {
 pub struct Step {
     pub found: bool,
     pub word: u32,
-    pub place: Place,
+    pub place: Cursor,
 }
 
 // A list that was read: how many words it has, and whether all came and had room.
 pub struct Taken {
     pub whole: bool,
     pub count: usize,
-    pub place: Place,
+    pub place: Cursor,
 }
 
-pub fn start() -> Place {
-    Place {
+pub fn start() -> Cursor {
+    Cursor {
         at: 0,
         held: 0,
         spare: 0,
@@ -70,10 +70,10 @@ pub fn put(list: &mut [u32], i: usize, w: u32)
 }
 
 // The next word of those in the buffer, if one is left there.
-fn buffered(bytes: &[u8], p: Place) -> Step {
+fn buffered(bytes: &[u8], p: Cursor) -> Step {
     if p.at < p.held {
         let word = word_at(bytes, p.at);
-        let place = Place {
+        let place = Cursor {
             at: p.at + 1,
             held: p.held,
             spare: p.spare,
@@ -94,9 +94,9 @@ fn buffered(bytes: &[u8], p: Place) -> Step {
 
 // Fills the buffer anew. Its length is a multiple of 4, and a read ends short only with the input, so no
 // word lies across two reads.
-fn fill(bytes: &mut [u8], p: Place) -> Place {
+fn fill(bytes: &mut [u8], p: Cursor) -> Cursor {
     let got = io::read_full(0, bytes);
-    Place {
+    Cursor {
         at: 0,
         held: got / 4,
         spare: got % 4,
@@ -105,7 +105,7 @@ fn fill(bytes: &mut [u8], p: Place) -> Place {
 }
 
 // The next word. Where bytes are left over the input is at its end.
-pub fn next(bytes: &mut [u8], p: Place) -> Step {
+pub fn next(bytes: &mut [u8], p: Cursor) -> Step {
     if p.at < p.held {
         return buffered(bytes, p);
     }
@@ -121,7 +121,7 @@ pub fn next(bytes: &mut [u8], p: Place) -> Step {
 }
 
 // Reads n words to the start of `list`.
-fn words(bytes: &mut [u8], list: &mut [u32], n: usize, from: Place) -> Taken {
+fn words(bytes: &mut [u8], list: &mut [u32], n: usize, from: Cursor) -> Taken {
     let mut place = from;
     let mut i: usize = 0;
     while i < n {
@@ -145,7 +145,7 @@ fn words(bytes: &mut [u8], list: &mut [u32], n: usize, from: Place) -> Taken {
 }
 
 // Reads a count and that many words to the start of `list`.
-pub fn list(bytes: &mut [u8], list: &mut [u32], from: Place) -> Taken {
+pub fn list(bytes: &mut [u8], list: &mut [u32], from: Cursor) -> Taken {
     let step = next(bytes, from);
     let place = step.place;
     let n = step.word as usize;

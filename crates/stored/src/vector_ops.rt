@@ -7,7 +7,6 @@ use crate::numbers::put_test;
 use crate::numbers::put_vector;
 use crate::numbers::single;
 use crate::numbers::vector;
-use vector::coords::Point;
 use vector::coords::Vector;
 use vector::geometry::horizontal;
 use vector::geometry::left_normal;

@@ -17,12 +17,12 @@ use Rattle.shape.specs.declared.refusal.Check.the-variants.{Fine, Faulty}
 use Rattle.shape.specs.Gather.{least}
 use Rattle.shape.specs.Lists.{meshLists}
 use Rattle.shape.specs.Memory.{Put}
-use Rattle.shape.specs.Refusal.{Fault, fine, fault, refuse, Answer, taken, refused, judge, leaves, numberOf, placeOf, found}
+use Rattle.shape.specs.Refusal.{fine, fault, refuse, Answer, taken, refused, judge, leaves, numberOf, placeOf, found}
 use Rattle.shape.specs.Laws.Gather.{least-le}
 use Rattle.shape.specs.Laws.Memory.{put-front, put-length}
 use Rattle.lookup.specs.declared.grid.Built.{Built}
 use Rattle.lookup.specs.declared.grid.Built.the-variants as built
-use Rattle.lookup.specs.Index.{buildOf, roomFault, answerTo, readBuilt, indexWords}
+use Rattle.lookup.specs.Index.{buildOf, indexRoom, answerTo, readBuilt, indexWords}
 use Rattle.lookup.specs.declared.record.Sampling.{Sampling}
 use Rattle.lookup.specs.declared.record.Sampling.the-variants as sampling
 use Rattle.lookup.specs.Batch.{recordWords, recordsOf, topsOf, readSampling}
@@ -31,7 +31,7 @@ use Rattle.surface.specs.declared.file.Copied.{Copied}
 use Rattle.surface.specs.declared.file.Copied.the-variants as copied
 use Rattle.surface.specs.declared.file.Form.the-variants.{File}
 use Rattle.surface.specs.File.{wordsOf, badAt, fileRecord, parts, refuseFirst, surfaceFault, fileFault, readCopied}
-use Rattle.surface.specs.Held.{countKind, verticesOf}
+use Rattle.surface.specs.Held.{countKind, verticesIn}
 use Rattle.surface.specs.Text.{digitsOf, refusedLine}
 use Rattle.surface.specs.Report.{meshIn, indexIn, linesOf, orRefused, reportOf, reportAnswer}
 use Rattle.surface.specs.ReportSteps.{Unpacked, Asked, Says, recordsIn, surfaceText}
@@ -87,7 +87,7 @@ module _
     built-words z = rw (← answer, z)
 
     pub place-small : {r : Refusal} → b ≡ built.Refused r → placeOf r < 2 ^ 32
-    unfolding answerTo roomFault readBuilt
+    unfolding answerTo indexRoom readBuilt
     place-small {r} z =
         let k = length (indexIn ws) in
         let q = (rw z at answer) ∙ build-fine ws (u .few) in
@@ -100,7 +100,7 @@ module _
 
     index-is : indexWords vs is ≡ indexIn ws
     unfolding indexIn
-    index-is = ap (λ (xs : List Float). indexWords xs is) (u .vertices) ∙ ap (λ (xs : List ℕ). indexWords (verticesOf ws) xs) (u .indices)
+    index-is = ap (λ (xs : List Float). indexWords xs is) (u .vertices) ∙ ap (λ (xs : List ℕ). indexWords (verticesIn ws) xs) (u .indices)
 
     module _ {n : ℕ} (z : b ≡ built.Words n) (before after : List ℕ) (l : after ≡ leaves (buildOf (meshLists vs ns is []) room) (indexWords vs is) before) where
       built-taken : buildOf (meshLists vs ns is []) room ≡ taken n

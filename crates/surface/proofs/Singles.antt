@@ -20,7 +20,7 @@ use Rattle.lookup.specs.declared.sampler.Detail.{Detail}
 use Rattle.lookup.specs.Mesh.{present, cornerOf}
 use Rattle.lookup.specs.Cover.{weightsAt, liftOf, heightOf, smoothOf, blendOf, flatOf, faceUp, normalOf}
 use Rattle.lookup.specs.Sampler.{hit, topOf}
-use Rattle.lookup.specs.Laws.Demand3.{hit-held}
+use Rattle.lookup.specs.Laws.Demand3.{hit-true}
 
 abbrev pub SingleVector : Vector → Type 0
 SingleVector n = T (fits binary32 (n .x)) × T (fits binary32 (n .y)) × T (fits binary32 (n .z))
@@ -76,7 +76,7 @@ height-single vs is t x y = add-fits binary32 _ _
 module _ (m : Mesh) (ws : List ℕ) (x y : Float) {h : Float} {n : Vector} {t : ℕ} {d : Detail} (e : topOf m ws x y ≡ taken (hit h n t d)) where
   pub single-height : T (fits binary32 h)
   single-height =
-      subst (λ (g : Float). T (fits binary32 g)) (sym (hit-held m ws x y h n t d e .is-height)) (height-single (m .vertices) (m .indices) t x y)
+      subst (λ (g : Float). T (fits binary32 g)) (sym (hit-true m ws x y h n t d e .is-height)) (height-single (m .vertices) (m .indices) t x y)
 
   pub single-normal : SingleVector n
-  single-normal = subst SingleVector (sym (hit-held m ws x y h n t d e .is-normal)) (normal-single (m .vertices) (m .normals) (m .indices) t x y)
+  single-normal = subst SingleVector (sym (hit-true m ws x y h n t d e .is-normal)) (normal-single (m .vertices) (m .normals) (m .indices) t x y)

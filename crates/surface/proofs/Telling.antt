@@ -1,6 +1,6 @@
 -- The line of a question by its record, and the lines of all. Assumes nothing.
 use mathlib.Core.Path.{_≡_, refl, sym, ap, _∙_}
-use mathlib.Core.Bool.{Bool, cond}
+use mathlib.Core.Bool.{cond}
 use mathlib.Core.List.{List}
 use Prim.Native.Nat.{ℕ, _+_, _*_, _≤_, _<_, _^_}
 use native.Mathlib.Nat.{add-zero}
@@ -20,17 +20,17 @@ use Rattle.lookup.specs.Sampler.{Sample, hit, miss, topOf}
 use Rattle.lookup.specs.Batch.{recordWords, recordOf}
 use Rattle.lookup.specs.Laws.Batch.{record-width}
 use Rattle.surface.specs.declared.held.Sizes.{Sizes}
-use Rattle.surface.specs.declared.report.Told.{Told}
+use Rattle.surface.specs.declared.report.LineTotals.{LineTotals}
 use Rattle.surface.specs.declared.report.Line.{Line}
 use Rattle.surface.specs.declared.report.Line.the-variants.{Found, None}
-use Rattle.surface.specs.Held.{howMany, countKind, sizesOf, laneOf, questionAt}
+use Rattle.surface.specs.Held.{howMany, countKind, sizesOf, laneIn, questionAt}
 use Rattle.surface.specs.Text.{digitsOf, laneText, foundLine, noneLine, askedLine}
 use Rattle.surface.specs.Report.{meshIn, indexIn, given, sampleAt, answered, lineOf, lineAt, answeredAt, linesOf}
-use Rattle.surface.specs.ReportSteps.{recordIn, recordsIn, Asked, textOf, isFound, LineFits, Tells, Tallied}
-use Rattle.surface.specs.Laws.Held.{howMany-next, howMany-le}
+use Rattle.surface.specs.ReportSteps.{recordIn, recordsIn, Asked, textOf, isFound, LineFits, Tells, Totalled}
+use Rattle.surface.specs.Laws.Held.{howMany-next}
 use Rattle.surface.specs.Laws.Text.{found-size, none-size, asked-size}
-use Rattle.surface.specs.Laws.Report.{kind-most, lines-few}
-use Rattle.surface.proofs.Singles.{SingleVector, single-height, single-normal}
+use Rattle.surface.specs.Laws.Report.{kind-most}
+use Rattle.surface.proofs.Singles.{single-height, single-normal}
 
 abbrev toVector : Float → Float → Float → Vector
 toVector x y z = record { x = x; y = y; z = z }
@@ -97,10 +97,12 @@ module _ {ws : List ℕ} {sizes : Sizes} {rs : List ℕ} (a : Asked ws sizes rs)
 
     pub tells-found : {g : Float} {n : Vector} {t lane : ℕ} → (getD rs (recordWords * k) 0 ≡ 0 → ⊥) → g ≡ ofBits binary32 (getD rs (recordWords * k + 1) 0)
         → n .x ≡ ofBits binary32 (getD rs (recordWords * k + 2) 0) → n .y ≡ ofBits binary32 (getD rs (recordWords * k + 3) 0)
-        → n .z ≡ ofBits binary32 (getD rs (recordWords * k + 4) 0) → (t ≡ getD rs (recordWords * k + 5) 0) × (t < 2 ^ 32) → (lane ≡ laneOf ws t) × (lane < 2 ^ 32)
+        → n .z ≡ ofBits binary32 (getD rs (recordWords * k + 4) 0) → (t ≡ getD rs (recordWords * k + 5) 0) × (t < 2 ^ 32) → (lane ≡ laneIn ws t) × (lane < 2 ^ 32)
         → Tells ws k (Found g n t lane)
     unfolding recordIn recordOf textOf isFound lineAt lineOf answeredAt answered
-    tells-found {g} {n} {t} {lane} z eg ex ey ez et el = go (sampleAt ws k) refl (λ q. z (first-is ∙ q)) (word-is 1 (omega arith)) (word-is 2 (omega arith)) (word-is 3 (omega arith)) (word-is 4 (omega arith)) (word-is 5 (omega arith))
+    tells-found {g} {n} {t} {lane} z eg ex ey ez et el =
+        go (sampleAt ws k) refl (λ q. z (first-is ∙ q)) (word-is 1 (omega arith)) (word-is 2 (omega arith)) (word-is 3 (omega arith))
+        (word-is 4 (omega arith)) (word-is 5 (omega arith))
       where
         small : {a : Float} {b : Vector} {c d : ℕ} → Found g n t lane ≡ Found a b c d → (c < 2 ^ 32) × (d < 2 ^ 32)
         small {a} {b} {c} {d} p = let u : t ≡ c = cc in let v : lane ≡ d = cc in (rw u at (et .1), rw v at (el .1))
@@ -122,7 +124,7 @@ module _ {ws : List ℕ} {sizes : Sizes} {rs : List ℕ} (a : Asked ws sizes rs)
             let mz : n .z ≡ m .z = ez ∙ back (m .z) (v .2) w4 refl in
             let em : n ≡ m = vector n m mx my mz in
             let eu : t ≡ u = et .0 ∙ w5 in
-            let ll : lane ≡ laneOf ws u = el .0 ∙ ap (laneOf ws) eu in
+            let ll : lane ≡ laneIn ws u = el .0 ∙ ap (laneIn ws) eu in
             record {
               text = rw (e, eh, em, eu, ll);
               answer = rw e;
@@ -152,16 +154,16 @@ module _ (k : ℕ) {line : Line} where
   unfolding textOf
   puts-none e p = rw e p
 
-module _ (k : ℕ) (told : Told) {line : Line} {n : ℕ} where
+module _ (k : ℕ) (totals : LineTotals) {line : Line} {n : ℕ} where
   pub counts-found : {h : Float} {v : Vector} {t lane : ℕ} → line ≡ Found h v t lane → n ≡ 64 + length (digitsOf 9 k) + length (digitsOf 9 t) + length (laneText lane)
-      → (told .size + n ≡ told .size + length (textOf k line)) × (told .found + 1 ≡ told .found + cond (isFound line) 1 0)
+      → (totals .size + n ≡ totals .size + length (textOf k line)) × (totals .found + 1 ≡ totals .found + cond (isFound line) 1 0)
   unfolding textOf isFound
-  counts-found {h} {v} {t} {lane} e f = rw e (ap (λ (i : ℕ). told .size + i) (f ∙ sym (found-size k h v t lane)), refl)
+  counts-found {h} {v} {t} {lane} e f = rw e (ap (λ (i : ℕ). totals .size + i) (f ∙ sym (found-size k h v t lane)), refl)
 
   pub counts-none : line ≡ None → n ≡ 9 + length (digitsOf 9 k)
-      → (told .size + n ≡ told .size + length (textOf k line)) × (told .found ≡ told .found + cond (isFound line) 1 0)
+      → (totals .size + n ≡ totals .size + length (textOf k line)) × (totals .found ≡ totals .found + cond (isFound line) 1 0)
   unfolding textOf isFound
-  counts-none e f = rw e (ap (λ (i : ℕ). told .size + i) (f ∙ sym (none-size k)), sym (add-zero (told .found)))
+  counts-none e f = rw e (ap (λ (i : ℕ). totals .size + i) (f ∙ sym (none-size k)), sym (add-zero (totals .found)))
 
 -- ---- all lines
 
@@ -196,9 +198,9 @@ module _ (ws : List ℕ) where
   all-length = length-append (gather (lineAt ws) (countKind ws 3)) asked
 
   -- the length of the text
-  pub whole-size : {told : Told} {q n m : ℕ} → Tallied ws told → q ≡ countKind ws 3 → n ≡ 14 + length (digitsOf 9 q) + length (digitsOf 9 (told .found))
-      → m ≡ told .size + n → m ≡ length (linesOf ws)
-  whole-size {told} {q} {n} {m} t e f g =
+  pub whole-size : {totals : LineTotals} {q n m : ℕ} → Totalled ws totals → q ≡ countKind ws 3 → n ≡ 14 + length (digitsOf 9 q) + length (digitsOf 9 (totals .found))
+      → m ≡ totals .size + n → m ≡ length (linesOf ws)
+  whole-size {totals} {q} {n} {m} t e f g =
       let s = asked-size (countKind ws 3) (howMany (answeredAt ws) (countKind ws 3)) in
       let u = rw (e, t .answers) at f in
       omega (arith, all-length, s, u, g, t .lengths)

@@ -5,7 +5,7 @@ use Prim.Native.Nat.{ℕ}
 use lib.ListN.{set, take}
 use Rattle.shape.specs.Refusal.{fine, fault, taken, refused}
 use Rattle.surface.specs.File.{encode, wordsOf, bytesOf, heldFault, readOf}
-use Rattle.surface.specs.Held.{indicesOf, laneOf}
+use Rattle.surface.specs.Held.{indicesIn, laneIn}
 
 -- vertices (0,0,2) (4,0,2) (4,4,2) (0,4,2) with normals (0,0,1), triangles 0 1 2 and 0 2 3 of lane 5, questions (3,1) (9,9)
 abbrev vertex : ℕ → ℕ → List ℕ
@@ -27,12 +27,12 @@ unfolding heldFault
 sound = refl
 
 -- "lane 5", and the corners in a row
-lanes : laneOf sample 1 ≡ 5
-unfolding laneOf
+lanes : laneIn sample 1 ≡ 5
+unfolding laneIn
 lanes = refl
 
-corners : indicesOf sample ≡ 0 ∷ 1 ∷ 2 ∷ 0 ∷ 2 ∷ 3 ∷ []
-unfolding indicesOf
+corners : indicesIn sample ≡ 0 ∷ 1 ∷ 2 ∷ 0 ∷ 2 ∷ 3 ∷ []
+unfolding indicesIn
 corners = refl
 
 -- the low byte first

@@ -88,22 +88,22 @@ cornersIn ws t =
     word ws k cornersWord ∷ word ws k (cornersWord + 1) ∷ word ws k (cornersWord + 2) ∷ []
 
 -- the lists of the mesh, in threes
-unfoldable pub verticesOf : List ℕ → List Float
+unfoldable pub verticesIn : List ℕ → List Float
 unfolding gather placeIn countKind
-verticesOf ws = gather (placeIn ws) (countKind ws vertexKind)
+verticesIn ws = gather (placeIn ws) (countKind ws vertexKind)
 
-unfoldable pub normalsOf : List ℕ → List Float
+unfoldable pub normalsIn : List ℕ → List Float
 unfolding gather normalIn countKind
-normalsOf ws = gather (normalIn ws) (countKind ws vertexKind)
+normalsIn ws = gather (normalIn ws) (countKind ws vertexKind)
 
-unfoldable pub indicesOf : List ℕ → List ℕ
+unfoldable pub indicesIn : List ℕ → List ℕ
 unfolding gather cornersIn countKind
-indicesOf ws = gather (cornersIn ws) (countKind ws triangleKind)
+indicesIn ws = gather (cornersIn ws) (countKind ws triangleKind)
 
 -- the lane id of triangle t, 0 for none
-unfoldable pub laneOf : List ℕ → ℕ → ℕ
+unfoldable pub laneIn : List ℕ → ℕ → ℕ
 unfolding triangleRecord wordOf
-laneOf ws t = word ws (triangleRecord ws t) laneWord
+laneIn ws t = word ws (triangleRecord ws t) laneWord
 
 -- question k
 unfoldable pub questionAt : List ℕ → ℕ → Question

@@ -8,20 +8,20 @@ use Rattle.shape.specs.Refusal.{Answer, taken, refused, judge}
 use Rattle.lookup.specs.Index.{indexWords, buildOf}
 use Rattle.lookup.specs.Sampler.{Sample, hit, miss, topOf}
 use Rattle.surface.specs.File.{wordsOf, fileFault, copyOf}
-use Rattle.surface.specs.Held.{howMany, countKind, verticesOf, normalsOf, indicesOf, laneOf, questionAt}
+use Rattle.surface.specs.Held.{howMany, countKind, verticesIn, normalsIn, indicesIn, laneIn, questionAt}
 use Rattle.surface.specs.Text.{foundLine, noneLine, askedLine, refusedLine}
 
 -- ---- the answers to the questions of held words
 
 -- the mesh. A file has no spans: the lane is word 4 of a triangle
 unfoldable pub meshIn : List ℕ → Mesh
-unfolding verticesOf normalsOf indicesOf
-meshIn ws = meshLists (verticesOf ws) (normalsOf ws) (indicesOf ws) []
+unfolding verticesIn normalsIn indicesIn
+meshIn ws = meshLists (verticesIn ws) (normalsIn ws) (indicesIn ws) []
 
 -- its index
 unfoldable pub indexIn : List ℕ → List ℕ
-unfolding indexWords verticesOf indicesOf
-indexIn ws = indexWords (verticesOf ws) (indicesOf ws)
+unfolding indexWords verticesIn indicesIn
+indexIn ws = indexWords (verticesIn ws) (indicesIn ws)
 
 -- what a lookup gave. It is never turned back where the index was built (`Laws.Report.never-refused`)
 unfoldable pub given : Answer Sample → Sample
@@ -41,8 +41,8 @@ answered miss = false
 
 -- the line of question k; "the lane is word 4"
 unfoldable pub lineOf : List ℕ → ℕ → Sample → List ℕ
-unfolding foundLine noneLine laneOf
-lineOf ws k (hit height normal triangle detail) = foundLine k height normal triangle (laneOf ws triangle)
+unfolding foundLine noneLine laneIn
+lineOf ws k (hit height normal triangle detail) = foundLine k height normal triangle (laneIn ws triangle)
 lineOf ws k miss = noneLine k
 
 unfoldable pub lineAt : List ℕ → ℕ → List ℕ

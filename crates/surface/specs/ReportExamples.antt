@@ -7,7 +7,7 @@ use Rattle.vector.specs.declared.coords.Vector.{Vector}
 use Rattle.vector.specs.Single.{single}
 use Rattle.shape.specs.Lists.{meshFault}
 use Rattle.lookup.specs.Frame.{extentOf}
-use Rattle.lookup.specs.Index.{noWords, wordsOver, indexWords, roomFault, answerTo}
+use Rattle.lookup.specs.Index.{noWords, wordsOver, indexWords, indexRoom, answerTo}
 use Rattle.surface.specs.Text.{ascii, digitsOf, decimal, hexadecimal, hexDigit, floated, normalText, laneText, foundLine, noneLine, askedLine, refusedLine}
 use Rattle.surface.specs.Report.{reportOf}
 
@@ -57,7 +57,7 @@ minus-zero = refl
 
 -- "empty input prints `asked 0 found 0`"
 empty : reportOf [] ≡ ascii "asked 0 found 0\n"
-unfolding reportOf meshFault answerTo roomFault indexWords wordsOver extentOf noWords
+unfolding reportOf meshFault answerTo indexRoom indexWords wordsOver extentOf noWords
 empty = refl
 
 -- a part record

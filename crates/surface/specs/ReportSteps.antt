@@ -12,11 +12,11 @@ use Rattle.lookup.specs.Index.{buildOf}
 use Rattle.lookup.specs.Batch.{recordOf}
 use Rattle.surface.specs.declared.file.Copied.{Copied}
 use Rattle.surface.specs.declared.held.Sizes.{Sizes}
-use Rattle.surface.specs.declared.report.Told.{Told}
+use Rattle.surface.specs.declared.report.LineTotals.{LineTotals}
 use Rattle.surface.specs.declared.report.Line.{Line}
 use Rattle.surface.specs.declared.report.Line.the-variants.{Found, None}
 use Rattle.surface.specs.File.{copyOf, readCopied}
-use Rattle.surface.specs.Held.{howMany, countKind, sizesOf, verticesOf, normalsOf, indicesOf, pointsOf}
+use Rattle.surface.specs.Held.{howMany, countKind, sizesOf, verticesIn, normalsIn, indicesIn, pointsOf}
 use Rattle.surface.specs.Text.{foundLine, noneLine}
 use Rattle.surface.specs.Report.{meshIn, sampleAt, lineAt, answeredAt, linesOf, orRefused}
 
@@ -24,9 +24,9 @@ use Rattle.surface.specs.Report.{meshIn, sampleAt, lineAt, answeredAt, l
 pub record Unpacked (ws : List ℕ) (sizes : Sizes) (vs ns : List Float) (is : List ℕ) (ps : List Float) : Type 0 where
   pub few : length ws ≤ 16384
   pub sized : sizes ≡ sizesOf ws
-  pub vertices : vs ≡ verticesOf ws
-  pub normals : ns ≡ normalsOf ws
-  pub indices : is ≡ indicesOf ws
+  pub vertices : vs ≡ verticesIn ws
+  pub normals : ns ≡ normalsIn ws
+  pub indices : is ≡ indicesIn ws
   pub points : ps ≡ pointsOf ws
 
 -- the record of question k's answer, and those of all
@@ -66,9 +66,9 @@ pub record Tells (ws : List ℕ) (k : ℕ) (line : Line) : Type 0 where
   pub words : LineFits line
 
 -- the lines of all questions are counted
-pub record Tallied (ws : List ℕ) (told : Told) : Type 0 where
-  pub lengths : told .size ≡ length (gather (lineAt ws) (countKind ws 3))
-  pub answers : told .found ≡ howMany (answeredAt ws) (countKind ws 3)
+pub record Totalled (ws : List ℕ) (totals : LineTotals) : Type 0 where
+  pub lengths : totals .size ≡ length (gather (lineAt ws) (countKind ws 3))
+  pub answers : totals .found ≡ howMany (answeredAt ws) (countKind ws 3)
 
 -- ---- the text
 

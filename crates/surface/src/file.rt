@@ -7,8 +7,29 @@ ghost use lib.Dec.{ltb, eqb};
 ghost use lib.ListN.{length};
 ghost use Rattle.shape.specs.Gather.{any, least};
 ghost use Rattle.shape.specs.Memory.{Put};
-ghost use Rattle.shape.specs.Refusal.{fine, refuse, found, leaves};
-ghost use Rattle.surface.specs.File.{wordAt, fourBytes, encode, kindOf, spare, spareUsed, badAt, parts, heldRecord, fileRecord, heldFault, fileFault, surfaceFault, heldOf, fileOf, wordsOf, bytesOf, readOf, writeOf, readCopied};
+ghost use Rattle.shape.specs.Refusal.{refuse, found, leaves};
+ghost use Rattle.surface.specs.File.{
+  wordAt,
+  fourBytes,
+  encode,
+  kindOf,
+  spare,
+  spareUsed,
+  badAt,
+  parts,
+  heldRecord,
+  fileRecord,
+  heldFault,
+  fileFault,
+  surfaceFault,
+  heldOf,
+  fileOf,
+  wordsOf,
+  bytesOf,
+  readOf,
+  writeOf,
+  readCopied,
+};
 ghost use Rattle.surface.specs.FileSteps.{soundKind, countIn, wholeIn, recordIn};
 use shape::refusal::Check;
 use shape::refusal::Refusal;
@@ -42,7 +63,8 @@ const RECORDS: usize = 2048;
 
 // ---- bytes and words
 
-fn wide(b: u8) -> u32
+// A byte as a word.
+fn as_word(b: u8) -> u32
     ensures { λ r. ⌜ r ≡ b ⌝ }
 {
     b as u32
@@ -52,7 +74,7 @@ fn wide(b: u8) -> u32
 fn join(a: u8, b: u8, c: u8, d: u8) -> u32
     ensures { λ r. ⌜ r ≡ a + 256 * (b + 256 * (c + 256 * d)) ⌝ }
 {
-    wide(a) + 256 * (wide(b) + 256 * (wide(c) + 256 * wide(d)))
+    as_word(a) + 256 * (as_word(b) + 256 * (as_word(c) + 256 * as_word(d)))
 }
 
 // Word i of the bytes.

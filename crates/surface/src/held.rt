@@ -7,7 +7,7 @@ ghost use lib.ListN.{length};
 ghost use Rattle.shape.specs.Memory.{Put};
 ghost use Rattle.shape.specs.Lists.{wordOf};
 ghost use Rattle.surface.specs.File.{wordsOf};
-ghost use Rattle.surface.specs.Held.{cornersWord, countKind, sizesOf, singleIn, verticesOf, normalsOf, indicesOf, laneOf, questionAt, pointsOf};
+ghost use Rattle.surface.specs.Held.{cornersWord, countKind, sizesOf, singleIn, verticesIn, normalsIn, indicesIn, laneIn, questionAt, pointsOf};
 use crate::file::QUESTION;
 use crate::file::TRIANGLE;
 use crate::file::VERTEX;
@@ -111,7 +111,7 @@ fn put_singles(bytes: &[u8], k: usize, j: usize, out: &mut [f32], at: usize) -> 
 // The places of all vertices, to the front of `out`.
 pub(crate) fn unpack_vertices(bytes: &[u8], sizes: Sizes, out: &mut [f32])
     requires { ⌜ (length (wordsOf (now bytes)) ≤ 16384) × (sizes ≡ sizesOf (wordsOf (now bytes))) × (3 * sizes .vertices ≤ length (now out)) ⌝ }
-    ensures { λ r. ⌜ Put (now (out .entry)) (now (out .exit)) 0 (verticesOf (wordsOf (now (bytes .entry)))) (3 * sizes .vertices) ⌝ }
+    ensures { λ r. ⌜ Put (now (out .entry)) (now (out .exit)) 0 (verticesIn (wordsOf (now (bytes .entry)))) (3 * sizes .vertices) ⌝ }
 {
     let n = sizes.vertices;
     let mut at: usize = 0;
@@ -125,7 +125,7 @@ pub(crate) fn unpack_vertices(bytes: &[u8], sizes: Sizes, out: &mut [f32])
 // The normals of all vertices, to the front of `out`.
 pub(crate) fn unpack_normals(bytes: &[u8], sizes: Sizes, out: &mut [f32])
     requires { ⌜ (length (wordsOf (now bytes)) ≤ 16384) × (sizes ≡ sizesOf (wordsOf (now bytes))) × (3 * sizes .vertices ≤ length (now out)) ⌝ }
-    ensures { λ r. ⌜ Put (now (out .entry)) (now (out .exit)) 0 (normalsOf (wordsOf (now (bytes .entry)))) (3 * sizes .vertices) ⌝ }
+    ensures { λ r. ⌜ Put (now (out .entry)) (now (out .exit)) 0 (normalsIn (wordsOf (now (bytes .entry)))) (3 * sizes .vertices) ⌝ }
 {
     let n = sizes.vertices;
     let mut at: usize = 0;
@@ -150,7 +150,7 @@ fn put_corners(bytes: &[u8], k: usize, out: &mut [u32], at: usize) -> usize
 // The corners of all triangles, to the front of `out`.
 pub(crate) fn unpack_indices(bytes: &[u8], sizes: Sizes, out: &mut [u32])
     requires { ⌜ (length (wordsOf (now bytes)) ≤ 16384) × (sizes ≡ sizesOf (wordsOf (now bytes))) × (3 * sizes .triangles ≤ length (now out)) ⌝ }
-    ensures { λ r. ⌜ Put (now (out .entry)) (now (out .exit)) 0 (indicesOf (wordsOf (now (bytes .entry)))) (3 * sizes .triangles) ⌝ }
+    ensures { λ r. ⌜ Put (now (out .entry)) (now (out .exit)) 0 (indicesIn (wordsOf (now (bytes .entry)))) (3 * sizes .triangles) ⌝ }
 {
     let first = sizes.vertices;
     let n = sizes.triangles;
@@ -167,7 +167,7 @@ pub(crate) fn unpack_indices(bytes: &[u8], sizes: Sizes, out: &mut [u32])
 // The lane id of triangle t, 0 for none.
 pub(crate) fn lane_of(bytes: &[u8], sizes: Sizes, t: usize) -> u32
     requires { ⌜ (length (wordsOf (now bytes)) ≤ 16384) × (sizes ≡ sizesOf (wordsOf (now bytes))) × (t < 2 ^ 32) ⌝ }
-    ensures { λ r. ⌜ r ≡ laneOf (wordsOf (now (bytes .entry))) t ⌝ }
+    ensures { λ r. ⌜ r ≡ laneIn (wordsOf (now (bytes .entry))) t ⌝ }
 {
     word(bytes, sizes.vertices + t, LANE)
 }

@@ -14,7 +14,7 @@ ghost use Rattle.surface.specs.File.{wordsOf, readCopied};
 ghost use Rattle.surface.specs.Held.{howMany, countKind};
 ghost use Rattle.surface.specs.Text.{refusedLine};
 ghost use Rattle.surface.specs.Report.{meshIn, indexIn, answeredAt, linesOf, reportOf, reportAnswer};
-ghost use Rattle.surface.specs.ReportSteps.{Unpacked, Asked, Tells, Tallied, Says, textOf, isFound, LineFits, surfaceText};
+ghost use Rattle.surface.specs.ReportSteps.{Unpacked, Asked, Tells, Totalled, Says, textOf, isFound, LineFits, surfaceText};
 use crate::file::Copied;
 use crate::file::file_fault;
 use crate::held::Sizes;
@@ -38,28 +38,13 @@ use lookup::grid::build;
 use lookup::record::RECORD_WORDS;
 use lookup::record::Sampling;
 use rounding::bits::from_bits32;
+use rounding::bits::wide;
 use shape::refusal::Check;
 use shape::refusal::Refusal;
-use shape::refusal::number;
-use shape::refusal::place;
+use shape::refusal::reason_of;
 use vector::coords::Vector;
 
 // ---- a refusal
-
-// A refusal by its number in document 01's table, and its place.
-struct Reason {
-    number: usize,
-    place: usize,
-}
-
-fn reason_of(r: Refusal) -> Reason
-    ensures { λ w. ⌜ (w .number ≡ numberOf r) × (w .place ≡ placeOf r) × (w .number < 6) ⌝ }
-{
-    Reason {
-        number: wide(number(r)),
-        place: place(r),
-    }
-}
 
 // A refusal is all that is printed.
 fn tell_refusal(r: Refusal, text: &mut [u8]) -> Copied
@@ -67,11 +52,12 @@ fn tell_refusal(r: Refusal, text: &mut [u8]) -> Copied
     ensures { λ a. ⌜ Says (refusedLine (numberOf r) (placeOf r)) (now (text .entry)) (now (text .exit)) a ⌝ }
 {
     let w = reason_of(r);
-    let size = refused_length(w.number, w.place);
+    let number = wide(w.number);
+    let size = refused_length(number, w.place);
     if text.len() < size {
         return Copied::Refused(Refusal::ShortOutput(size));
     }
-    put_refused(text, 0, w.number, w.place);
+    put_refused(text, 0, number, w.place);
     Copied::Count(size)
 }
 
@@ -81,12 +67,6 @@ fn tell_refusal(r: Refusal, text: &mut [u8]) -> Copied
 enum Line {
     Found(f32, Vector, usize, usize),
     None,
-}
-
-fn wide(x: u32) -> usize
-    ensures { λ r. ⌜ (r ≡ x) × (r < 2 ^ 32) ⌝ }
-{
-    x as usize
 }
 
 // The line of question k, by its record.
@@ -126,41 +106,41 @@ fn put_line(out: &mut [u8], at: usize, k: usize, line: Line) -> usize
 // ---- all lines
 
 // How long lines are together, and how many of them tell an answer.
-struct Told {
+struct LineTotals {
     size: usize,
     found: usize,
 }
 
 // One line more, that of question k.
-fn counted(told: Told, k: usize, line: Line) -> Told
-    requires { ⌜ LineFits line × (k < 2048) × (told .size ≤ 204800) × (told .found ≤ 2048) ⌝ }
-    ensures { λ r. ⌜ (r .size ≡ told .size + length (textOf k line)) × (r .found ≡ told .found + cond (isFound line) 1 0) ⌝ }
+fn counted(totals: LineTotals, k: usize, line: Line) -> LineTotals
+    requires { ⌜ LineFits line × (k < 2048) × (totals .size ≤ 204800) × (totals .found ≤ 2048) ⌝ }
+    ensures { λ r. ⌜ (r .size ≡ totals .size + length (textOf k line)) × (r .found ≡ totals .found + cond (isFound line) 1 0) ⌝ }
 {
     match line {
-        Line::Found(height, normal, triangle, lane) => Told {
-            size: told.size + found_length(k, triangle, lane),
-            found: told.found + 1,
+        Line::Found(height, normal, triangle, lane) => LineTotals {
+            size: totals.size + found_length(k, triangle, lane),
+            found: totals.found + 1,
         },
-        Line::None => Told {
-            size: told.size + none_length(k),
-            found: told.found,
+        Line::None => LineTotals {
+            size: totals.size + none_length(k),
+            found: totals.found,
         },
     }
 }
 
 // The lines of all questions.
-fn tally(bytes: &[u8], sizes: Sizes, records: &[u32]) -> Told
+fn tally(bytes: &[u8], sizes: Sizes, records: &[u32]) -> LineTotals
     requires { ⌜ Asked (wordsOf (now bytes)) sizes (now records) ⌝ }
-    ensures { λ r. ⌜ Tallied (wordsOf (now (bytes .entry))) r ⌝ }
+    ensures { λ r. ⌜ Totalled (wordsOf (now (bytes .entry))) r ⌝ }
 {
     let n = sizes.questions;
-    let mut told = Told { size: 0, found: 0 };
+    let mut totals = LineTotals { size: 0, found: 0 };
     let mut k: usize = 0;
     while k < n {
-        told = counted(told, k, line_at(bytes, sizes, records, k));
+        totals = counted(totals, k, line_at(bytes, sizes, records, k));
         k += 1;
     }
-    told
+    totals
 }
 
 // The lines of all questions, and the last line.
@@ -185,12 +165,12 @@ fn tell_lines(bytes: &[u8], sizes: Sizes, records: &[u32], text: &mut [u8]) -> C
     requires { ⌜ Asked (wordsOf (now bytes)) sizes (now records) ⌝ }
     ensures { λ a. ⌜ Says (linesOf (wordsOf (now (bytes .entry)))) (now (text .entry)) (now (text .exit)) a ⌝ }
 {
-    let told = tally(bytes, sizes, records);
-    let wanted = told.size + asked_length(sizes.questions, told.found);
+    let totals = tally(bytes, sizes, records);
+    let wanted = totals.size + asked_length(sizes.questions, totals.found);
     if text.len() < wanted {
         return Copied::Refused(Refusal::ShortOutput(wanted));
     }
-    put_lines(bytes, sizes, records, told.found, text);
+    put_lines(bytes, sizes, records, totals.found, text);
     Copied::Count(wanted)
 }
 

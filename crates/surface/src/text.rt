@@ -6,7 +6,7 @@ ghost use lib.ListN.{length};
 ghost use Rattle.rounding.specs.Stored.{storedOf};
 ghost use Rattle.shape.specs.Memory.{Put};
 ghost use Rattle.surface.specs.Text.{digit, digitsOf, decimal, hexDigit, hexadecimal, normalText, laneText, foundLine, noneLine, askedLine, refusedLine};
-use rounding::bits::stored;
+use rounding::bits::stored_word;
 use vector::coords::Vector;
 
 // Bytes as they are.
@@ -90,7 +90,7 @@ fn put_float(out: &mut [u8], at: usize, word: &[u8], x: f32) -> usize
     ensures { λ r. ⌜ r ≡ at + length (now (word .entry)) + 8 ⌝ }
 {
     let next = put_bytes(out, at, word);
-    put_hexadecimal(out, next, stored(x))
+    put_hexadecimal(out, next, stored_word(x))
 }
 
 fn put_normal(out: &mut [u8], at: usize, n: Vector) -> usize

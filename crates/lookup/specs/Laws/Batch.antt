@@ -21,7 +21,7 @@ use Rattle.lookup.specs.declared.mesh.Best.the-variants.{At, Nothing}
 use Rattle.lookup.specs.declared.lane.Lane.the-variants.{Id, None}
 use Rattle.lookup.specs.Mesh.{triangles}
 use Rattle.lookup.specs.Plain.{scanOf, entryOf, lookupOf, plainOf, answerOf}
-use Rattle.lookup.specs.Consult.{Place, runIn, consultOf}
+use Rattle.lookup.specs.Consult.{Candidates, runIn, consultOf}
 use Rattle.lookup.specs.Sampler.{pastOf, laneOf, topFault, Sample, hit, miss, sampleOf, sampleIn, onward, topOf}
 use Rattle.lookup.specs.Batch.{recordWords, laneId, wordFor, recordOf, recordAt, recordsOf, pointsIn, topsOf}
 use Rattle.lookup.specs.Record.{plainSample, RecordFits}
@@ -71,8 +71,8 @@ module _ (m : Mesh) (ws : List ℕ) (x y : Float) (w : (i : ℕ) → getD (m .sp
       let n = triangles (m .indices) in
       rw f (go f (consultOf ws n x y) (consult-holds (λ (k p : ℕ). p < 4294967296) (λ p l. l) ws n (index-in-order m ws f) x y))
     where
-      go : topFault m ws ≡ fine → (a : Answer Place) → ((k p : ℕ) → a ≡ refused k p → p < 4294967296)
-          → RecordFits (onward a (λ (p : Place). sampleIn m x y (runIn ws p)))
+      go : topFault m ws ≡ fine → (a : Answer Candidates) → ((k p : ℕ) → a ≡ refused k p → p < 4294967296)
+          → RecordFits (onward a (λ (p : Candidates). sampleIn m x y (runIn ws p)))
       go f (taken p) h = sample-words m x y (mesh-in-order m ws f) w (runIn ws p) _ refl
       go f (refused k p) h = h k p refl
 

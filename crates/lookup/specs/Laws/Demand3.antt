@@ -22,8 +22,8 @@ use Rattle.lookup.specs.Mesh.{triangles}
 use Rattle.lookup.specs.Box.{inBox}
 use Rattle.lookup.specs.Plain.{entryOf, gives, none, plainOf, answerOf}
 use Rattle.lookup.specs.Winner.{Covers, height, normal, Wins, NoNan}
-use Rattle.lookup.specs.Index.{indexWords, buildOf, roomFault, answerTo, candidatesOf}
-use Rattle.lookup.specs.Consult.{Place, runIn, consultOf}
+use Rattle.lookup.specs.Index.{indexWords, buildOf, indexRoom, answerTo, candidatesOf}
+use Rattle.lookup.specs.Consult.{Candidates, runIn, consultOf}
 use Rattle.lookup.specs.Sampler.{Sample, hit, miss, detailOf, lookupIn, sampleOf, sampleIn, onward, topFault, topOf}
 use Rattle.lookup.specs.Demand3.{BuiltFrom, NamesLane, InWords, InBuilt, Demand3}
 use Rattle.shape.specs.Laws.Refusal.{passed}
@@ -54,12 +54,12 @@ unfolding buildOf answerTo
 size-is m room n e =
     let p = judged (meshFault m) (answerTo (indexWords (m .vertices) (m .indices)) room) n e .1 in
     let k = length (indexWords (m .vertices) (m .indices)) in
-    let q = judged (roomFault (indexWords (m .vertices) (m .indices)) room) (taken k) n p .1 in
+    let q = judged (indexRoom (indexWords (m .vertices) (m .indices)) room) (taken k) n p .1 in
     sym (one-taken k n q)
 
 -- which are within the limit
 few-words : (m : Mesh) (room n : ℕ) → buildOf m room ≡ taken n → n ≤ 4194304
-unfolding buildOf answerTo roomFault refuse
+unfolding buildOf answerTo indexRoom refuse
 few-words m room n e =
     let p = judged (meshFault m) (answerTo (indexWords (m .vertices) (m .indices)) room) n e .1 in
     let k = length (indexWords (m .vertices) (m .indices)) in
@@ -98,18 +98,18 @@ words-fit m ws b q =
 -- ---- a hit, whatever the index
 
 -- what is given is a covering triangle's: its height, its normal, and what else is told of it
-pub record Held (m : Mesh) (x y : Float) (h : Float) (n : Vector) (t : ℕ) (d : Detail) : Type 0 where
+pub record TrueHit (m : Mesh) (x y : Float) (h : Float) (n : Vector) (t : ℕ) (d : Detail) : Type 0 where
   pub covered : Covers m x y t
   pub is-height : h ≡ height m x y t
   pub is-normal : n ≡ normal m x y t
   pub is-detail : d ≡ detailOf m t
 
 module _ (m : Mesh) (ws : List ℕ) (x y : Float) (h : Float) (n : Vector) (t : ℕ) (d : Detail) where
-  held-in : (run : List ℕ) → sampleIn m x y run ≡ hit h n t d → Held m x y h n t d
+  true-in : (run : List ℕ) → sampleIn m x y run ≡ hit h n t d → TrueHit m x y h n t d
   unfolding sampleIn sampleOf
-  held-in run e = go (bestOf m x y (entryOf run) (length run)) refl e
+  true-in run e = go (bestOf m x y (entryOf run) (length run)) refl e
     where
-      go : (s : Best) → bestOf m x y (entryOf run) (length run) ≡ s → sampleOf m x y s ≡ hit h n t d → Held m x y h n t d
+      go : (s : Best) → bestOf m x y (entryOf run) (length run) ≡ s → sampleOf m x y s ≡ hit h n t d → TrueHit m x y h n t d
       go (At g j) q z =
           let f = scan-found (m .vertices) (m .indices) x y (entryOf run) (length run) q in
           let u : j ≡ t = cc in
@@ -119,26 +119,26 @@ module _ (m : Mesh) (ws : List ℕ) (x y : Float) (h : Float) (n : Vector) (t : 
           rw (← u, ← v, ← w, ← o) (record { covered = f .counted; is-height = f .height; is-normal = refl; is-detail = refl })
       go Nothing q z = let u : _≡_ {A = ℕ} 0 1 = cc in absurd (omega arith)
 
-  pub hit-held : topOf m ws x y ≡ taken (hit h n t d) → Held m x y h n t d
+  pub hit-true : topOf m ws x y ≡ taken (hit h n t d) → TrueHit m x y h n t d
   unfolding topOf onward
-  hit-held e = go (consultOf ws (triangles (m .indices)) x y) (judged (topFault m ws) (onward (consultOf ws (triangles (m .indices)) x y) (λ (p : Place). sampleIn m x y (runIn ws p))) (hit h n t d) e .1)
+  hit-true e = go (consultOf ws (triangles (m .indices)) x y) (judged (topFault m ws) (onward (consultOf ws (triangles (m .indices)) x y) (λ (p : Candidates). sampleIn m x y (runIn ws p))) (hit h n t d) e .1)
     where
-      go : (a : Answer Place) → onward a (λ (p : Place). sampleIn m x y (runIn ws p)) ≡ taken (hit h n t d) → Held m x y h n t d
-      go (taken p) q = held-in (runIn ws p) (one-taken (sampleIn m x y (runIn ws p)) (hit h n t d) q)
+      go : (a : Answer Candidates) → onward a (λ (p : Candidates). sampleIn m x y (runIn ws p)) ≡ taken (hit h n t d) → TrueHit m x y h n t d
+      go (taken p) q = true-in (runIn ws p) (one-taken (sampleIn m x y (runIn ws p)) (hit h n t d) q)
       go (refused number place) q = let z : _≡_ {A = ℕ} 0 1 = cc in absurd (omega arith)
 
 -- ---- none where the plain lookup gives none, and never higher, whatever the index
 
 module _ (m : Mesh) (ws : List ℕ) (x y : Float) where
   pub none-where-none : answerOf m x y ≡ taken none → (s : Sample) → topOf m ws x y ≡ taken s → s ≡ miss
-  none-where-none p (hit h n t d) e = absurd (answer-none m x y none p .0 refl t (hit-held m ws x y h n t d e .covered))
+  none-where-none p (hit h n t d) e = absurd (answer-none m x y none p .0 refl t (hit-true m ws x y h n t d e .covered))
   none-where-none p miss e = refl
 
   pub never-higher : NoNan m x y → (h : Float) (n : Vector) (k : ℕ) → answerOf m x y ≡ taken (gives h n k)
       → (h′ : Float) (n′ : Vector) (k′ : ℕ) (d : Detail) → topOf m ws x y ≡ taken (hit h′ n′ k′ d) → T (le h′ h)
   never-higher nn h n k p h′ n′ k′ d e =
       let r = answer-right m x y nn (gives h n k) p in
-      let g = hit-held m ws x y h′ n′ k′ d e in
+      let g = hit-true m ws x y h′ n′ k′ d e in
       rw (g .is-height, r .1) (r .0 .greatest k′ (g .covered))
 
 -- ---- the lane: over a mesh that came from lanes, a hit names the lane whose strip holds the triangle
@@ -146,7 +146,7 @@ module _ (m : Mesh) (ws : List ℕ) (x y : Float) where
 pub lane-named : (g : Given) (ws : List ℕ) (x y : Float) (h : Float) (n : Vector) (t : ℕ) (d : Detail)
     → topOf (meshOf g) ws x y ≡ taken (hit h n t d) → NamesLane g t (d .lane)
 lane-named g ws x y h n t d e =
-    let k = hit-held (meshOf g) ws x y h n t d e in
+    let k = hit-true (meshOf g) ws x y h n t d e in
     let s = strip-of g t (covers-below (meshOf g) x y t (k .covered)) in
     record { of = s .of; in-strip = s .in-strip; named = ap (λ (i : Detail). i .lane) (k .is-detail) ∙ strip-lane g t (s .of) (s .in-strip) }
 
@@ -156,7 +156,7 @@ module _ (m : Mesh) (ws : List ℕ) (b : BuiltFrom m ws) (x y : Float) where
   handed : Hands ws (triangles (m .indices)) x y (candidatesOf (m .vertices) (m .indices) x y)
   handed = let w = words m ws b in subst (λ (o : List ℕ). Hands o (triangles (m .indices)) x y (candidatesOf (m .vertices) (m .indices) x y)) (sym (w .are)) (hands (m .vertices) (m .indices) (w .rest) x y)
 
-  consulted : onward (consultOf ws (triangles (m .indices)) x y) (λ (p : Place). sampleIn m x y (runIn ws p)) ≡ taken (sampleIn m x y (candidatesOf (m .vertices) (m .indices) x y))
+  consulted : onward (consultOf ws (triangles (m .indices)) x y) (λ (p : Candidates). sampleIn m x y (runIn ws p)) ≡ taken (sampleIn m x y (candidatesOf (m .vertices) (m .indices) x y))
   unfolding onward
   consulted = rw (handed .answers, handed .is)
 

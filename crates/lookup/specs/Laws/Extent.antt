@@ -24,24 +24,24 @@ use Rattle.lookup.specs.Frame.{joinOf, extentOf, countOf, milli, cellOf}
 use Rattle.lookup.specs.Laws.Parts.{cases}
 use Rattle.lookup.specs.declared.mesh.Fetch.{Fetch}
 use Rattle.lookup.specs.declared.mesh.Fetch.the-variants.{Corners, Missing}
-use Rattle.lookup.specs.declared.boxes.Bounds.{Bounds}
+use Rattle.lookup.specs.declared.boxes.Aabb.{Aabb}
 use Rattle.lookup.specs.declared.boxes.Boxed.{Boxed}
 use Rattle.lookup.specs.declared.boxes.Boxed.the-variants.{Box, None}
 
 -- ---- the extent holds each box
 
 -- e holds b, as far as the bounds of b are numbers
-pub record Around (b e : Bounds) : Type 0 where
+pub record Around (b e : Aabb) : Type 0 where
   pub left : IsNum (b .«min_x») → T (le (e .«min_x») (b .«min_x»))
   pub right : IsNum (b .«max_x») → T (le (b .«max_x») (e .«max_x»))
   pub low : IsNum (b .«min_y») → T (le (e .«min_y») (b .«min_y»))
   pub high : IsNum (b .«max_y») → T (le (b .«max_y») (e .«max_y»))
 
-abbrev pub InExtent : Bounds → Boxed → Type 0
+abbrev pub InExtent : Aabb → Boxed → Type 0
 InExtent b (Box e) = Around b e
 InExtent b None = ⊥
 
-around-self : (b : Bounds) → Around b b
+around-self : (b : Aabb) → Around b b
 around-self b = record { left = λ n. le-refl (b .«min_x») n; right = λ n. le-refl (b .«max_x») n; low = λ n. le-refl (b .«min_y») n; high = λ n. le-refl (b .«max_y») n }
 
 below : (b a c : Float) → T (le a b) → T (le (minOf a c) b)
@@ -50,7 +50,7 @@ below b a c h = le-trans (minOf a c) a b (min-picks a c .left (le-num-left a b h
 above : (b a c : Float) → T (le b a) → T (le b (maxOf a c))
 above b a c h = le-trans b a (maxOf a c) h (max-picks a c .left (le-num-right b a h))
 
-around-first : (b a c : Bounds) → Around b a → Around b (mergeOf a c)
+around-first : (b a c : Aabb) → Around b a → Around b (mergeOf a c)
 unfolding mergeOf
 around-first b a c r =
     record {
@@ -60,7 +60,7 @@ around-first b a c r =
       high = λ n. above (b .«max_y») (a .«max_y») (c .«max_y») (r .high n);
     }
 
-around-second : (a b : Bounds) → Around b (mergeOf a b)
+around-second : (a b : Aabb) → Around b (mergeOf a b)
 unfolding mergeOf
 around-second a b =
     record {
@@ -70,18 +70,18 @@ around-second a b =
       high = λ n. max-picks (a .«max_y») (b .«max_y») .right n;
     }
 
-join-keeps : (b : Bounds) (x y : Boxed) → InExtent b x → InExtent b (joinOf x y)
+join-keeps : (b : Aabb) (x y : Boxed) → InExtent b x → InExtent b (joinOf x y)
 unfolding joinOf
 join-keeps b (Box a) (Box c) r = around-first b a c r
 join-keeps b (Box a) None r = r
 join-keeps b None y r = absurd r
 
-join-takes : (b : Bounds) (x : Boxed) → InExtent b (joinOf x (Box b))
+join-takes : (b : Aabb) (x : Boxed) → InExtent b (joinOf x (Box b))
 unfolding joinOf
 join-takes b (Box a) = around-second a b
 join-takes b None = around-self b
 
-pub extent-holds : (vs : List Float) (is : List ℕ) (n t : ℕ) (b : Bounds) → t < n → boxOf vs is t ≡ Box b → InExtent b (extentOf vs is n)
+pub extent-holds : (vs : List Float) (is : List ℕ) (n t : ℕ) (b : Aabb) → t < n → boxOf vs is t ≡ Box b → InExtent b (extentOf vs is n)
 unfolding extentOf
 extent-holds vs is zero t b l e = absurd (not-suc-le-zero l)
 extent-holds vs is (suc n) t b l e =
@@ -92,7 +92,7 @@ extent-holds vs is (suc n) t b l e =
 
 -- ---- its bounds are singles
 
-pub record Fit (b : Bounds) : Type 0 where
+pub record Fit (b : Aabb) : Type 0 where
   pub left : T (fits binary32 (b .«min_x»))
   pub right : T (fits binary32 (b .«max_x»))
   pub low : T (fits binary32 (b .«min_y»))
@@ -105,11 +105,11 @@ Fits None = Unit {0}
 pick-fits : {rel : Float → Float → Bool} (x y r : Float) → Picks rel x y r → T (fits binary32 x) → T (fits binary32 y) → T (fits binary32 r)
 pick-fits x y r p h k = ⊎-elim (λ e. subst (λ (z : Float). T (fits binary32 z)) (sym e) h) (λ e. subst (λ (z : Float). T (fits binary32 z)) (sym e) k) (p .which)
 
-grown-fit : (b : Bounds) → Fit (grownOf b)
+grown-fit : (b : Aabb) → Fit (grownOf b)
 unfolding grownOf
 grown-fit b = record { left = sub-fits binary32 _ _; right = add-fits binary32 _ _; low = sub-fits binary32 _ _; high = add-fits binary32 _ _ }
 
-merge-fit : (a b : Bounds) → Fit a → Fit b → Fit (mergeOf a b)
+merge-fit : (a b : Aabb) → Fit a → Fit b → Fit (mergeOf a b)
 unfolding mergeOf
 merge-fit a b h k =
     record {
@@ -178,7 +178,7 @@ module _ (w h : Float) (cols rows : ℕ) where
 
 -- ---- a triangle with a box is one of the mesh
 
-pub box-there : (vs : List Float) (is : List ℕ) (t : ℕ) (b : Bounds) → boxOf vs is t ≡ Box b → t < triangles is
+pub box-there : (vs : List Float) (is : List ℕ) (t : ℕ) (b : Aabb) → boxOf vs is t ≡ Box b → t < triangles is
 unfolding boxOf cornersOf grownBox present
 box-there vs is t b e = go (ltb t (triangles is)) refl e
   where

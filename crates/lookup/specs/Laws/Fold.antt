@@ -7,7 +7,6 @@ use Prim.Native.Nat.{ℕ, zero, suc, _+_, _<_}
 use native.Mathlib.Nat.{add-zero, add-suc}
 use native.Mathlib.Omega.{arith}
 use native.Mathlib.Decide.{decLt}
-use Rattle.shape.specs.Gather.{gather}
 use Rattle.lookup.specs.Fold.{foldOf, countedOf}
 
 -- ---- the numbers that count

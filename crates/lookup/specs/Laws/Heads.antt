@@ -13,11 +13,11 @@ use lib.Arith.{digits-lt}
 use lib.Ieee.{Float, binary32, le}
 use Rattle.lookup.specs.Column.{col}
 use Rattle.lookup.specs.Laws.Column.{col-lt}
-use Rattle.shape.specs.Refusal.{Fault, fine, fault, refuse, orElse, Answer, taken, refused}
+use Rattle.shape.specs.Refusal.{fine, fault, refuse, orElse, Answer, taken, refused}
 use Rattle.shape.specs.Laws.Refusal.{passed}
-use Rattle.lookup.specs.Consult.{wordAt, floatAt, sides, declares, headFault, inside, cellAt, entryFault, startAt, firstAt, startFault, Place, nowhere, run, runOf, consultOf}
-use Rattle.lookup.specs.Steps.{Sided, spotOf}
-use Rattle.lookup.specs.declared.consult.Spot.the-variants.{Cell, Outside}
+use Rattle.lookup.specs.Consult.{wordAt, floatAt, sides, declares, headFault, inside, cellAt, entryFault, startAt, firstAt, startFault, Candidates, nowhere, run, runOf, consultOf}
+use Rattle.lookup.specs.Steps.{Sided, cellOrOutside}
+use Rattle.lookup.specs.declared.consult.PointCell.the-variants.{Cell, Outside}
 use Rattle.lookup.specs.Laws.Parts.{both}
 
 -- ---- the sides
@@ -124,37 +124,37 @@ module _ (ws : List ℕ) (count from : ℕ) where
 -- ---- the spot
 
 module _ (ws : List ℕ) (x y a b p q : Float) (ea : a ≡ floatAt ws 3) (eb : b ≡ floatAt ws 4) (ep : p ≡ floatAt ws 5) (eq : q ≡ floatAt ws 6) where
-  pub spot-in : (k : ℕ) → le a x ≡ true → le x p ≡ true → le b y ≡ true → le y q ≡ true → k ≡ cellAt ws x y → Cell k ≡ spotOf ws x y
-  unfolding spotOf inside
-  spot-in k h i j l e = rw (← ea, ← eb, ← ep, ← eq, h, i, j, l, e)
+  pub cell-in : (k : ℕ) → le a x ≡ true → le x p ≡ true → le b y ≡ true → le y q ≡ true → k ≡ cellAt ws x y → Cell k ≡ cellOrOutside ws x y
+  unfolding cellOrOutside inside
+  cell-in k h i j l e = rw (← ea, ← eb, ← ep, ← eq, h, i, j, l, e)
 
-  pub spot-left : le a x ≡ false → Outside ≡ spotOf ws x y
-  unfolding spotOf inside
-  spot-left h = rw (← ea, h)
+  pub cell-left : le a x ≡ false → Outside ≡ cellOrOutside ws x y
+  unfolding cellOrOutside inside
+  cell-left h = rw (← ea, h)
 
-  pub spot-right : le a x ≡ true → le x p ≡ false → Outside ≡ spotOf ws x y
-  unfolding spotOf inside
-  spot-right h i = rw (← ea, ← ep, h, i)
+  pub cell-right : le a x ≡ true → le x p ≡ false → Outside ≡ cellOrOutside ws x y
+  unfolding cellOrOutside inside
+  cell-right h i = rw (← ea, ← ep, h, i)
 
-  pub spot-low : le a x ≡ true → le x p ≡ true → le b y ≡ false → Outside ≡ spotOf ws x y
-  unfolding spotOf inside
-  spot-low h i j = rw (← ea, ← ep, ← eb, h, i, j)
+  pub cell-low : le a x ≡ true → le x p ≡ true → le b y ≡ false → Outside ≡ cellOrOutside ws x y
+  unfolding cellOrOutside inside
+  cell-low h i j = rw (← ea, ← ep, ← eb, h, i, j)
 
-  pub spot-high : le a x ≡ true → le x p ≡ true → le b y ≡ true → le y q ≡ false → Outside ≡ spotOf ws x y
-  unfolding spotOf inside
-  spot-high h i j l = rw (← ea, ← ep, ← eb, ← eq, h, i, j, l)
+  pub cell-high : le a x ≡ true → le x p ≡ true → le b y ≡ true → le y q ≡ false → Outside ≡ cellOrOutside ws x y
+  unfolding cellOrOutside inside
+  cell-high h i j l = rw (← ea, ← ep, ← eb, ← eq, h, i, j, l)
 
-pub spot-cell : (ws : List ℕ) (x y : Float) (c : ℕ) → Cell c ≡ spotOf ws x y → (inside ws x y ≡ true) × (c ≡ cellAt ws x y)
-unfolding spotOf
-spot-cell ws x y c e = go (inside ws x y) e
+pub cell-is : (ws : List ℕ) (x y : Float) (c : ℕ) → Cell c ≡ cellOrOutside ws x y → (inside ws x y ≡ true) × (c ≡ cellAt ws x y)
+unfolding cellOrOutside
+cell-is ws x y c e = go (inside ws x y) e
   where
     go : (b : Bool) → Cell c ≡ cond b (Cell (cellAt ws x y)) Outside → (b ≡ true) × (c ≡ cellAt ws x y)
     go true k = (refl, cc)
     go false k = absurd (let z : _≡_ {A = ℕ} 0 1 = cc in omega arith)
 
-pub spot-none : (ws : List ℕ) (x y : Float) → Outside ≡ spotOf ws x y → inside ws x y ≡ false
-unfolding spotOf
-spot-none ws x y e = go (inside ws x y) e
+pub cell-none : (ws : List ℕ) (x y : Float) → Outside ≡ cellOrOutside ws x y → inside ws x y ≡ false
+unfolding cellOrOutside
+cell-none ws x y e = go (inside ws x y) e
   where
     go : (b : Bool) → Outside ≡ cond b (Cell (cellAt ws x y)) Outside → b ≡ false
     go true k = absurd (let z : _≡_ {A = ℕ} 0 1 = cc in omega arith)
@@ -236,6 +236,6 @@ module _ (ws : List ℕ) (count : ℕ) (x y : Float) where
     unfolding consultOf
     consult-out h k = rw (e, ne-eqb (wordAt ws 1) 0 h, k)
 
-    pub consult-in : (wordAt ws 1 ≡ 0 → ⊥) → inside ws x y ≡ true → (answer : Answer Place) → answer ≡ runOf ws count (cellAt ws x y) → answer ≡ consultOf ws count x y
+    pub consult-in : (wordAt ws 1 ≡ 0 → ⊥) → inside ws x y ≡ true → (answer : Answer Candidates) → answer ≡ runOf ws count (cellAt ws x y) → answer ≡ consultOf ws count x y
     unfolding consultOf
     consult-in h k answer a = rw (e, ne-eqb (wordAt ws 1) 0 h, k) a

@@ -21,7 +21,7 @@ use Rattle.lookup.specs.Mesh.{triangles}
 use Rattle.lookup.specs.Box.{boxOf, within, inBoxed, inBox}
 use Rattle.lookup.specs.Frame.{extentOf, boxesOf, frameOf}
 use Rattle.lookup.specs.Index.{blockOf, blocksOf, holds, members, start, cellWords, headOf, gridWords, noWords, wordsOver, indexWords, cellIn, candidatesIn, candidatesOver, candidatesOf, buildOf}
-use Rattle.lookup.specs.Consult.{wordAt, floatAt, headFault, inside, cellAt, entryFault, Place, nowhere, run, runIn, runOf, consultOf}
+use Rattle.lookup.specs.Consult.{wordAt, floatAt, headFault, inside, cellAt, entryFault, Candidates, nowhere, run, runIn, runOf, consultOf}
 use Rattle.lookup.specs.Steps.{Framed}
 use Rattle.lookup.specs.Laws.Parts.{both, start-mono, start-suc}
 use Rattle.lookup.specs.Laws.Cells.{holds-at}
@@ -29,14 +29,14 @@ use Rattle.lookup.specs.Laws.Frames.{framed, inside-of}
 use Rattle.lookup.specs.Laws.Reading.{length-index, index-start, index-run, Stands, run-of, run-holds, run-rises}
 use Rattle.lookup.specs.Laws.Heads.{sides-fine, head-fine, head-none, entry-none, entry-step, run-fine, consult-none, consult-out, consult-in}
 use Rattle.lookup.specs.Laws.Extent.{Around, InExtent, extent-holds, Fit, Fits, extent-fits, cell-width, cell-back, box-there}
-use Rattle.lookup.specs.declared.boxes.Bounds.{Bounds}
+use Rattle.lookup.specs.declared.boxes.Aabb.{Aabb}
 use Rattle.lookup.specs.declared.boxes.Boxed.{Boxed}
 use Rattle.lookup.specs.declared.boxes.Boxed.the-variants.{Box, None}
 use Rattle.lookup.specs.declared.frame.Frame.{Frame}
 
 -- consulted at (x, y), the words hand over a run
 pub record Hands (ws : List ℕ) (count : ℕ) (x y : Float) (given : List ℕ) : Type 0 where
-  pub place : Place
+  pub place : Candidates
   pub answers : consultOf ws count x y ≡ taken place
   pub is : runIn ws place ≡ given
 
@@ -171,7 +171,7 @@ hands-grid vs is f ok rest x y b e =
     subst (λ (o : List ℕ). Hands o n x y (cond b (candidatesIn vs is f x y) [])) (sym (append-assoc (headOf n f (start h n (f .rows * f .cols))) (cellWords h n (f .rows * f .cols)) rest))
     (hands-either h n f ok rest x y b e)
 
-sound-frame : (e : Bounds) (count : ℕ) → Fit e → Sound (frameOf e count)
+sound-frame : (e : Aabb) (count : ℕ) → Fit e → Sound (frameOf e count)
 unfolding frameOf
 sound-frame e count k = record { counts = framed e count; left = k .left; right = k .right; low = k .low; high = k .high; width = cell-width _ _ _ _; cell-is = cell-back _ _ _ _ }
 
@@ -221,13 +221,13 @@ module _ (vs : List Float) (is : List ℕ) (x y : Float) where
 
 -- ---- a triangle whose grown box holds the point
 
-record Within (b : Bounds) (x y : Float) : Type 0 where
+record Within (b : Aabb) (x y : Float) : Type 0 where
   left : T (le (b .«min_x») x)
   right : T (le x (b .«max_x»))
   low : T (le (b .«min_y») y)
   high : T (le y (b .«max_y»))
 
-within-is : (b : Bounds) (x y : Float) → within b x y ≡ true → Within b x y
+within-is : (b : Aabb) (x y : Float) → within b x y ≡ true → Within b x y
 unfolding within
 within-is b x y e =
     let p = both (le (b .«min_x») x && le x (b .«max_x»)) (le (b .«min_y») y && le y (b .«max_y»)) e in
@@ -240,7 +240,7 @@ true-of true h = refl
 true-of false h = absurd h
 
 -- the extent then holds it too
-within-extent : (b e : Bounds) (x y : Float) → Around b e → Within b x y → within e x y ≡ true
+within-extent : (b e : Aabb) (x y : Float) → Around b e → Within b x y → within e x y ≡ true
 unfolding within
 within-extent b e x y r w =
     let l = true-of (le (e .«min_x») x) (le-trans (e .«min_x») (b .«min_x») x (r .left (le-num-left (b .«min_x») x (w .left))) (w .left)) in
@@ -250,7 +250,7 @@ within-extent b e x y r w =
     rw (l, h, d, u)
 
 -- and its cell is one of the box's
-cell-held : (vs : List Float) (is : List ℕ) (f : Frame) (t : ℕ) (b : Bounds) (x y : Float) → Framed f → Width (f .cell) → boxOf vs is t ≡ Box b → Within b x y
+cell-held : (vs : List Float) (is : List ℕ) (f : Frame) (t : ℕ) (b : Aabb) (x y : Float) → Framed f → Width (f .cell) → boxOf vs is t ≡ Box b → Within b x y
     → holds (blocksOf vs is f) (f .cols) t (cellIn f x y) ≡ true
 unfolding cellIn blocksOf blockOf
 cell-held vs is f t b x y k w e i =
@@ -265,7 +265,7 @@ pub candidate : (vs : List Float) (is : List ℕ) (t : ℕ) (x y : Float) → in
 unfolding inBox inBoxed candidatesOf candidatesOver candidatesIn
 candidate vs is t x y e = boxed (boxOf vs is t) refl e
   where
-    over : (b : Bounds) → boxOf vs is t ≡ Box b → Within b x y → (k : Boxed) → Fits k → InExtent b k → Stands t (candidatesOver vs is k x y)
+    over : (b : Aabb) → boxOf vs is t ≡ Box b → Within b x y → (k : Boxed) → Fits k → InExtent b k → Stands t (candidatesOver vs is k x y)
     over b p w (Box e) m r =
         let f = frameOf e (boxesOf vs is (triangles is)) in
         let s = sound-frame e (boxesOf vs is (triangles is)) m in

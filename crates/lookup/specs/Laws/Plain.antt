@@ -20,7 +20,7 @@ use Rattle.lookup.specs.Mesh.{triangles, present}
 use Rattle.lookup.specs.Cover.{covers}
 use Rattle.lookup.specs.Plain.{scanOf, Lookup, gives, none, lookupOf, plainOf, answerOf}
 use Rattle.lookup.specs.Winner.{Covers, Uncovered, height, normal, Wins, NoNan, Right}
-use Rattle.lookup.specs.Laws.Scan.{Numbers, Leads, Leading, scan-leads, scan-found, scan-nothing}
+use Rattle.lookup.specs.Laws.Scan.{Numbers, Leads, Leading, scan-leads, scan-nothing}
 
 -- the best of the first n triangles of a sequence, and of all
 abbrev pub bestOf : Mesh → Float → Float → (ℕ → ℕ) → ℕ → Best

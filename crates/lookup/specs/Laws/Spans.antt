@@ -1,14 +1,16 @@
 -- Which span the lane of a triangle is read from. Assumes nothing.
 use Prim.Native.Nat.{ℕ, zero, suc, _*_, _/_, _≤_, _<_}
-use mathlib.Core.Path.{_≡_}
+use mathlib.Core.Path.{_≡_, sym}
 use mathlib.Core.Bool.{false}
 use mathlib.Core.List.{List}
 use native.Mathlib.Omega.{arith}
 use native.Mathlib.Decide.{decLt}
 use native.Mathlib.Nat.{le-refl}
+use lib.Dec.{ltb}
 use lib.ListN.{length}
 use borrow.Author.Tests.{lt-ltb, le-ltb, le-leb, lt-leb}
 use Rattle.shape.specs.Gather.{any}
+use Rattle.shape.specs.Laws.Gather.{least-at, least-none}
 use Rattle.shape.specs.Lists.{wordOf, startOf, endOf, lastEnd, runBad}
 use Rattle.shape.specs.Laws.Lists.{sound}
 use Rattle.lookup.specs.declared.lane.Lane.the-variants.{Id, None}
@@ -27,20 +29,13 @@ ends-rise ss len n e j (suc k) h l = go (decLt j (suc k)) (λ b. ends-rise ss le
 -- span q is the first that ends past i, or there is none and q is n
 pub past-is : (ss : List ℕ) (i n q : ℕ) → q ≤ n → ((j : ℕ) → j < q → endOf 5 3 ss j ≤ i) → (q < n → i < endOf 5 3 ss q) → pastOf ss i n ≡ q
 unfolding pastOf
-past-is ss i zero q l b p = omega arith
-past-is ss i (suc n) q l b p =
-    go (decLt q n) (decLt n q) (λ h. past-is ss i n q (omega arith) b (λ k. p (omega arith)))
-    (λ h. past-is ss i n n (omega arith) (λ j m. b j (omega arith)) (λ m. absurd (omega arith)))
+past-is ss i n q l b p = go (decLt q n)
   where
-    go : Dec (q < n) → Dec (n < q) → (q < n → pastOf ss i n ≡ q) → (n ≤ q → pastOf ss i n ≡ n) → pastOf ss i (suc n) ≡ q
-    go (yes h) d r s = simp (r h, lt-ltb q n h)
-    go (no h) (yes k) r s =
-        let z : q ≡ suc n = omega arith in
-        simp (s (omega arith), le-ltb n n (le-refl n), le-ltb i (endOf 5 3 ss n) (b n (omega arith)), z)
-    go (no h) (no k) r s =
+    go : Dec (q < n) → pastOf ss i n ≡ q
+    go (yes h) = sym (least-at (λ k. ltb i (endOf 5 3 ss k)) n q h (λ j m. le-ltb i (endOf 5 3 ss j) (b j m)) (lt-ltb i (endOf 5 3 ss q) (p h)))
+    go (no h) =
         let z : q ≡ n = omega arith in
-        let g : i < endOf 5 3 ss n = rw z at (p (omega arith)) in
-        simp (s (omega arith), le-ltb n n (le-refl n), lt-ltb i (endOf 5 3 ss n) g, z)
+        rw z (sym (least-none (λ k. ltb i (endOf 5 3 ss k)) n (λ j m. le-ltb i (endOf 5 3 ss j) (b j (omega arith)))))
 
 module _ (ss : List ℕ) (t k : ℕ) (q : k ≡ pastOf ss (3 * t) (length ss / 5)) where
   pub lane-id : k < length ss / 5 → startOf 5 3 ss k ≤ 3 * t → Id (wordOf 5 ss k 0) ≡ laneOf ss t

@@ -7,7 +7,9 @@ use Rattle.replay.proofs.cases.Statement.{statement}
 use Rattle.replay.proofs.cases.Tie as tie
 
 abbrev Inv-loop : tie.InvT-loop
-Inv-loop op n bytes₀ given₀ wanted₀ made₀ run₀ i₀ bytes given wanted made run i = (i ≤ n) × ((length bytes ≡ length bytes₀) × ((length given ≡ length given₀) × ((length wanted ≡ length wanted₀) × (length made ≡ length made₀))))
+Inv-loop op n bytes₀ given₀ wanted₀ made₀ run₀ i₀ bytes given wanted made run i =
+    (i ≤ n)
+    × ((length bytes ≡ length bytes₀) × ((length given ≡ length given₀) × ((length wanted ≡ length wanted₀) × (length made ≡ length made₀))))
 
 abbrev μ-loop : tie.MeasureT-loop
 μ-loop op n bytes₀ given₀ wanted₀ made₀ run₀ i₀ bytes given wanted made run i = n - i
@@ -37,7 +39,11 @@ returns : tie.Need-returns Inv-loop μ-loop
 returns c = tt
 
 add-i : tie.Need-add-i Inv-loop μ-loop
-add-i c = omega (arith, c .before .before .before .before .before .before .before .before .before .before .before .before .before .before .before .before .before .before .before .before .before .fits .n)
+add-i c =
+    let at-turn = c .before .before .before .before .before .before .before .before .before in
+    let at-loop = at-turn .before .before .before .before .before .before in
+    let start = at-loop .before .before .before .before .before .before in
+    omega (arith, start .fits .n)
 
 loop-less : tie.Need-loop-less Inv-loop μ-loop
 loop-less c = omega arith

@@ -6,7 +6,8 @@ use Rattle.replay.proofs.replay.Statement.{statement}
 use Rattle.replay.proofs.replay.Tie as tie
 
 abbrev Inv-loop : tie.InvT-loop
-Inv-loop bytes₀ given₀ wanted₀ made₀ step₀ turns₀ bytes given wanted made step turns = (length bytes ≡ length bytes₀) × ((length given ≡ length given₀) × ((length wanted ≡ length wanted₀) × (length made ≡ length made₀)))
+Inv-loop bytes₀ given₀ wanted₀ made₀ step₀ turns₀ bytes given wanted made step turns =
+    (length bytes ≡ length bytes₀) × ((length given ≡ length given₀) × ((length wanted ≡ length wanted₀) × (length made ≡ length made₀)))
 
 abbrev μ-loop : tie.MeasureT-loop
 μ-loop bytes₀ given₀ wanted₀ made₀ step₀ turns₀ bytes given wanted made step turns = turns

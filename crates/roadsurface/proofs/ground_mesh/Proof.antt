@@ -20,7 +20,8 @@ returns : tie.Need-returns
 unfolding gridIf
 returns c =
     let d = c .before .before .before .before .before .before in
-    rw (d .before .before .before .before .if1 .taken) (d .mesh .ensures)
+    let at-if1 = d .before .before .before .before in
+    rw (at-if1 .if1 .taken) (d .mesh .ensures)
 
 mesh-requires-2 : tie.Need-mesh-requires-2
 mesh-requires-2 c κs = search needs
@@ -38,7 +39,8 @@ returns-2 : tie.Need-returns-2
 unfolding gridIf
 returns-2 c =
     let d = c .before .before .before .before .before .before in
-    rw (d .before .before .before .before .if1 .left) (d .mesh2 .ensures)
+    let at-if1 = d .before .before .before .before in
+    rw (at-if1 .if1 .left) (d .mesh2 .ensures)
 
 pub ground-mesh-spec : {M : Type 1} → statement M
 ground-mesh-spec =

@@ -20,7 +20,7 @@ use lib.Ieee.Nearest.{closest}
 use Rattle.rounding.specs.Laws.Basics.{emax-ge}
 use Rattle.rounding.specs.Laws.Isqrt.{isqrt-root, sq-lt}
 use Rattle.rounding.specs.Laws.Nearest.{NoNearer, round-nearest, sum-is, order}
-use Rattle.rounding.specs.Laws.Held.{Held, held, bounded, value-finite}
+use Rattle.rounding.specs.Laws.Representable.{Representable, held, bounded, value-finite}
 
 -- v is no farther from the root of x than w is: the middle of the two, (v + w) / 2, is on w's side of the root or on it, so its square is on that side of x.
 -- Each of the three is num / den.
@@ -111,7 +111,7 @@ sqrt-fin f s (suc m) e h = cond-no (eqb (suc m) 0) (fin s (suc m) e) (cond s nan
 pub sqrt-pos : (f : Format) (m : ℕ) (e : ℤ) → 0 < m → sqrtOf f (fin false m e) ≡ rootOf f (m * up e) (down e)
 sqrt-pos f m e h = sqrt-fin f false m e h
 
-root-nearest : (f : Format) (m : ℕ) (e : ℤ) (n : ℕ) (k : ℤ) → Held f n k → T (finite (rootOf f (m * up e) (down e))) → NoFarther (fin false m e) (rootOf f (m * up e) (down e)) (fin false n k)
+root-nearest : (f : Format) (m : ℕ) (e : ℤ) (n : ℕ) (k : ℤ) → Representable f n k → T (finite (rootOf f (m * up e) (down e))) → NoFarther (fin false m e) (rootOf f (m * up e) (down e)) (fin false n k)
 root-nearest f m e n k h t =
     let a = m * up e in
     let d = down e in

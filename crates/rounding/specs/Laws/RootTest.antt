@@ -16,7 +16,7 @@ use lib.Ieee.Order.{le-of-values}
 use Rattle.rounding.specs.Root.{sqrtOf}
 use Rattle.rounding.specs.Width.{narrowOf}
 use Rattle.rounding.specs.Laws.Basics.{same-test}
-use Rattle.rounding.specs.Laws.Held.{held}
+use Rattle.rounding.specs.Laws.Representable.{held}
 use Rattle.rounding.specs.Laws.RootNearest.{sqrt-fin}
 use Rattle.rounding.specs.Laws.Order.{IsNum, le→Le, Le→le, le-trans, le-or-lt, lt→not-le, not-le→lt, lt-of-lt-of-le, nan-lt, nan-le, le-nan, lt-nan, T-of, not-T-of}
 use Rattle.rounding.specs.Laws.Width.{narrow-mono, narrow-num, narrow-nan}

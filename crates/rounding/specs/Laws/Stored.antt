@@ -1,11 +1,11 @@
 -- A single that is stored as the index stores it and read back is the same number: only the sign of a zero is lost, and no order turns on that.
 -- Assumes nothing.
-use mathlib.Core.Path.{_≡_, refl, sym, ap, _∙_, subst}
+use mathlib.Core.Path.{_≡_, refl, sym, ap, subst}
 use mathlib.Core.Logic.{_⊎_, inl, inr, ⊎-elim}
-use mathlib.Core.Bool.{Bool, true, false, cond}
+use mathlib.Core.Bool.{Bool, true, false}
 use lib.IntN.{pos}
 use lib.Dec.{T}
-use lib.Ieee.{Float, nan, inf, fin, Format, binary32, fits, ofBits, toBits, eq, le}
+use lib.Ieee.{Float, nan, inf, fin, binary32, fits, ofBits, eq, le}
 use lib.Ieee.Bits.{ofBits-toBits}
 use lib.Ieee.Scale.{finite}
 use Rattle.rounding.specs.Stored.{storedOf}

@@ -1,7 +1,7 @@
 -- The numbers under a root from which on the root is at least, or above, each constant of `specs/Thresholds.antt`, with the two computed cases of each. Assumes nothing.
 use mathlib.Core.Path.{refl}
 use lib.Dec.{lit<}
-use lib.Ieee.{Float, binary32, binary64, ofBits, le, lt}
+use lib.Ieee.{binary32, binary64, ofBits, le, lt}
 use Rattle.rounding.specs.Root.{sqrtOf}
 use Rattle.rounding.specs.Width.{narrowOf}
 use Rattle.rounding.specs.Thresholds.{micro, milli, tenth}

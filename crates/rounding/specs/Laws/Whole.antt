@@ -20,7 +20,7 @@ use Rattle.rounding.specs.Whole.{Way, toward, half, away, moves, one-if,
 use Rattle.rounding.specs.Laws.Signed.{Cross, cross-trans}
 use Rattle.rounding.specs.Laws.Order.{IsNum, Le, le→Le, Le-right, le-bottom, le-top, le-refl}
 use Rattle.rounding.specs.Laws.Rounding.{round-order, round-num, same-le, le-of-values, zero-of}
-use Rattle.rounding.specs.Laws.Held.{digits, round-held, value-unique}
+use Rattle.rounding.specs.Laws.Representable.{digits, round-held, value-unique}
 use Rattle.rounding.specs.Laws.Count.{cast-value, cast-minus}
 
 -- ---- the whole number that the size a / d goes to

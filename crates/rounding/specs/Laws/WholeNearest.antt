@@ -1,6 +1,6 @@
 -- Rounding goes to the nearest whole number, a half away from zero (`roundOf-nearest`): no whole number, in the format or out of it, is nearer to x, and of two that are
 -- equally near it is the one farther from zero. Assumes nothing.
-use mathlib.Core.Path.{_≡_, refl, sym, ap, _∙_}
+use mathlib.Core.Path.{_≡_, sym, ap, _∙_}
 use Prim.Native.Nat.{ℕ, suc, _+_, _-_, _*_, _/_, _%_, _≤_, _<_}
 use native.Mathlib.Nat.{mul-pos, mul-le-mul-right, div-add-mod', mod-lt, eq-of-mul-eq-mul-right}
 use native.Mathlib.Omega.{arith}
@@ -12,7 +12,7 @@ use lib.Ieee.Fits.{down-pos}
 use lib.Ieee.Exact.{HasValue}
 use lib.Ieee.Positive.{num, den}
 use lib.Ieee.Scale.{finite}
-use Rattle.rounding.specs.Whole.{half, moves, one-if, wholeOf, ways, roundOf}
+use Rattle.rounding.specs.Whole.{half, one-if, ways, roundOf}
 use Rattle.rounding.specs.Laws.Whole.{wholeSize, whole-value}
 
 -- how far ±a and ±b lie apart

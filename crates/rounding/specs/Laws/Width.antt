@@ -10,7 +10,7 @@ use lib.Ieee.Scale.{finite}
 use Rattle.rounding.specs.Width.{narrowOf}
 use Rattle.rounding.specs.Laws.Order.{IsNum, Le, le→Le, Le-right, le-bottom, le-top}
 use Rattle.rounding.specs.Laws.Rounding.{Signed, round-order, round-num, round-signed}
-use Rattle.rounding.specs.Laws.Held.{round-held, value-unique}
+use Rattle.rounding.specs.Laws.Representable.{round-held, value-unique}
 use Rattle.rounding.specs.Laws.Nearest.{NoFartherFrom, round-nearest-value}
 
 pub narrow-nan : (f : Format) → narrowOf f nan ≡ nan

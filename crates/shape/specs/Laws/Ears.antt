@@ -1,28 +1,26 @@
 -- Laws about the ears of a ring: how many there are, and that they name its points; and the steps by which they are found and cut.
 -- Assumes nothing.
 use mathlib.Core.Path.{_≡_, refl, sym, ap, _∙_}
-use mathlib.Core.Logic.{⊎-elim}
-use mathlib.Core.Bool.{Bool, true, false, cond, not, _&&_, _||_}
+use mathlib.Core.Bool.{Bool, true, false, cond, _&&_}
 use mathlib.Core.List.{List, [], _∷_, _++_, append-assoc, append-nil}
 use Prim.Native.Nat.{ℕ, zero, suc, _+_, _-_, _*_, _/_, _%_, _<_, _≤_}
 use native.Mathlib.Nat.{mod-lt, mod-self, mod-eq-of-lt, mod-eq-sub-mod, zero-add, add-zero}
 use native.Mathlib.Decide.{decLt}
 use native.Mathlib.Numerals.{add-one}
 use native.Mathlib.Omega.{arith}
-use borrow.Author.Tests.{ltb-true, ltb-false, lt-ltb, le-ltb, eqb-true, eq-eqb, ne-eqb}
+use borrow.Author.Tests.{ltb-true, lt-ltb, le-ltb, eqb-true, eq-eqb, ne-eqb}
 use lib.Dec.{ltb, eqb}
-use lib.Ieee.{Float, lt}
-use lib.ListN.{length, getD, take, drop, set, length-append, length-take, length-drop, length-set, List·getD-append}
-use lib.Seq.{sets, paste, paste-zero, paste-suc, take-paste, drop-paste, length-paste, take-nil, getD-take, getD-drop, getD-append-add, take-take, take-suc, drop-cons, append-snoc, set-at, length-take-le}
-use Rattle.vector.specs.Single.{0f}
-use Rattle.shape.specs.Gather.{gather, any, least}
+use lib.Ieee.{Float}
+use lib.ListN.{length, getD, take, drop, set, length-drop}
+use lib.Seq.{paste, paste-zero, paste-suc, take-paste, drop-paste, length-paste, take-nil, getD-drop, take-take, take-suc, drop-cons, append-snoc, set-at, length-take-le}
+use Rattle.shape.specs.Gather.{gather}
 use Rattle.shape.specs.Memory.{Put}
 use Rattle.shape.specs.Lists.{longer, uneven}
 use Rattle.shape.specs.Refusal.{Answer, taken, refused, leaves}
-use Rattle.shape.specs.Ears.{cross, turnsLeft, isEar, firstEar, at, before, after, earAt, without, lastEar, cutEars, upTo, earsOf, earsAnswer}
+use Rattle.shape.specs.Ears.{turnsLeft, firstEar, at, before, after, earAt, without, lastEar, cutEars, upTo, earsOf, earsAnswer}
 use Rattle.shape.specs.EarSteps.{Within, Cut}
-use Rattle.shape.specs.Laws.Gather.{or-left, any-none, least-le, gather-next, gather-even}
-use Rattle.shape.specs.Laws.Memory.{put-none, put-then, put-length, put-front}
+use Rattle.shape.specs.Laws.Gather.{gather-even}
+use Rattle.shape.specs.Laws.Memory.{put-none, put-then, put-front}
 
 -- ---- positions in a closed ring
 

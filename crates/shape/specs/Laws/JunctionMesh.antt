@@ -1,16 +1,15 @@
 -- Laws about the triangles of a junction: how many there are, and how they are put one after another. Assumes nothing.
 use mathlib.Core.Path.{_≡_, refl, sym, ap, _∙_, subst}
 use mathlib.Core.Bool.{Bool, true, false, cond}
-use mathlib.Core.List.{List, [], _∷_, _++_, append-nil}
-use Prim.Native.Nat.{ℕ, zero, suc, _+_, _-_, _*_, _/_, _%_, _<_, _≤_}
+use mathlib.Core.List.{List, [], _++_, append-nil}
+use Prim.Native.Nat.{ℕ, zero, suc, _+_, _-_, _*_, _/_, _<_, _≤_}
 use native.Mathlib.Nat.{mul-le-mul}
 use native.Mathlib.Decide.{decLt}
 use native.Mathlib.Numerals.{add-one}
 use native.Mathlib.Omega.{arith}
-use borrow.Author.Tests.{ltb-false, lt-ltb, le-ltb, eq-eqb, ne-eqb}
-use lib.Dec.{ltb}
+use borrow.Author.Tests.{lt-ltb, le-ltb}
 use lib.Ieee.{Float, nan, inf, fin, ofBits, ofFields, odd, neg, lt, div, binary64, toUnsigned}
-use lib.ListN.{length, getD, drop, length-append}
+use lib.ListN.{length, getD, length-append}
 use Rattle.rounding.specs.Extremes.{clampOf}
 use Rattle.rounding.specs.Whole.{ceilOf}
 use Rattle.rounding.specs.Laws.Order.{IsNum, le-of-not-lt}
@@ -24,7 +23,7 @@ use Rattle.shape.specs.Gather.{gather}
 use Rattle.shape.specs.Lists.{pointAt, longer, uneven, Mesh, meshLists}
 use Rattle.shape.specs.MeshMemory.{lengthsOf, roomFault, leavesMesh}
 use Rattle.shape.specs.Elevation.{gridLong, gridRagged}
-use Rattle.shape.specs.JunctionMesh.{1d, 64d, longestOf, partsOf, faceOf, cornersOf, normalsOf, earCut, lattice, cellOf, rowOf, splitOf, earMesh, earsMesh, sumOf, verticesOf, vertexCount, groundVertices, groundNormals, stepOf, Ground, lifter, meshVertices, meshNormals, meshIndices, groundLengths, groundMesh, groundLimits, groundRagged, groundInput, groundResult, groundAnswer, readGround}
+use Rattle.shape.specs.JunctionMesh.{1d, 64d, longestOf, partsOf, faceOf, cornerCoords, faceNormals, earCut, lattice, cellOf, rowOf, splitOf, earMesh, earsMesh, sumOf, earVertices, vertexCount, groundVertices, groundNormals, spacingOf, Ground, lifter, meshVertices, meshNormals, meshIndices, groundLengths, groundMesh, groundLimits, groundRagged, groundInput, groundResult, groundAnswer, readGround}
 use Rattle.shape.specs.Memory.{Put}
 use Rattle.shape.specs.Refusal.{fine, found, refuse, orElse, Answer, taken, refused, judge, numberOf, placeOf}
 use Rattle.shape.specs.declared.refusal.Refusal.{Refusal}
@@ -99,18 +98,18 @@ pub sum-next : (f : ℕ → ℕ) (i : ℕ) → sumOf f (i + 1) ≡ sumOf f i + f
 unfolding sumOf
 sum-next f i = rw add-one
 
-pub vertices-of : (step : Float) (ring : List Float) (ears : List ℕ) (k : ℕ) (e : Ear) → e ≡ earCut step ring ears k → 3 * (e .n * e .n) ≡ verticesOf step ring ears k
-unfolding verticesOf
+pub vertices-of : (step : Float) (ring : List Float) (ears : List ℕ) (k : ℕ) (e : Ear) → e ≡ earCut step ring ears k → 3 * (e .n * e .n) ≡ earVertices step ring ears k
+unfolding earVertices
 vertices-of step ring ears k e h = rw h
 
 -- ---- triangles one after another
 
-pub corners-nine : (a b c : Point) → length (cornersOf a b c) ≡ 9
-unfolding cornersOf
+pub corners-nine : (a b c : Point) → length (cornerCoords a b c) ≡ 9
+unfolding cornerCoords
 corners-nine a b c = refl
 
-pub normals-nine : (a b c : Point) → length (normalsOf a b c) ≡ 9
-unfolding normalsOf
+pub normals-nine : (a b c : Point) → length (faceNormals a b c) ≡ 9
+unfolding faceNormals
 normals-nine a b c = refl
 
 module _ (f : Point → Point → Point → List Float) (A : ℕ → ℕ → Point) (n i : ℕ) where
@@ -188,7 +187,7 @@ sum-fits f i (suc n) h =
 
 -- three numbers a vertex
 pub ears-length : (f : Point → Point → Point → List Float) → ((a b c : Point) → length (f a b c) ≡ 9) → (lift : Point → Point) (step : Float) (ring : List Float) (ears : List ℕ) (k : ℕ)
-    → length (gather (λ (i : ℕ). earMesh f lift (earCut step ring ears i)) k) ≡ 3 * sumOf (verticesOf step ring ears) k
+    → length (gather (λ (i : ℕ). earMesh f lift (earCut step ring ears i)) k) ≡ 3 * sumOf (earVertices step ring ears) k
 unfolding gather sumOf
 ears-length f nine lift step ring ears zero = refl
 ears-length f nine lift step ring ears (suc k) =
@@ -204,15 +203,15 @@ ears-mesh-length f nine lift step ring ears = ears-length f nine lift step ring 
 
 module _ (g : Ground) where
   abbrev pub manyOf : ℕ
-  manyOf = vertexCount (stepOf (g .grid)) (g .ring) (earsOf (g .ring))
+  manyOf = vertexCount (spacingOf (g .grid)) (g .ring) (earsOf (g .ring))
 
   vertices-long : length (meshVertices g) ≡ 3 * manyOf
   unfolding meshVertices groundVertices
-  vertices-long = ears-mesh-length cornersOf corners-nine (lifter g) (stepOf (g .grid)) (g .ring) (earsOf (g .ring))
+  vertices-long = ears-mesh-length cornerCoords corners-nine (lifter g) (spacingOf (g .grid)) (g .ring) (earsOf (g .ring))
 
   normals-long : length (meshNormals g) ≡ 3 * manyOf
   unfolding meshNormals groundNormals
-  normals-long = ears-mesh-length normalsOf normals-nine (lifter g) (stepOf (g .grid)) (g .ring) (earsOf (g .ring))
+  normals-long = ears-mesh-length faceNormals normals-nine (lifter g) (spacingOf (g .grid)) (g .ring) (earsOf (g .ring))
 
   pub many-is : length (meshVertices g) / 3 ≡ manyOf
   many-is = omega (arith, vertices-long)
@@ -247,8 +246,8 @@ module _ (g : Ground) where
   -- all outputs as a call that is taken leaves them
   pub ground-left : (v v′ n n′ : List Float) (i i′ : List ℕ) {a : Answer ℕ} {r s : ℕ} → taken manyOf ≡ a
       → Fits (groundLengths manyOf) (lengthsOf (meshLists v n i []))
-      → Put v v′ 0 (earsMesh cornersOf (lifter g) (stepOf (g .grid)) (g .ring) (earsOf (g .ring))) r
-      → Put n n′ 0 (earsMesh normalsOf (lifter g) (stepOf (g .grid)) (g .ring) (earsOf (g .ring))) s
+      → Put v v′ 0 (earsMesh cornerCoords (lifter g) (spacingOf (g .grid)) (g .ring) (earsOf (g .ring))) r
+      → Put n n′ 0 (earsMesh faceNormals (lifter g) (spacingOf (g .grid)) (g .ring) (earsOf (g .ring))) s
       → Put i i′ 0 (upTo manyOf) manyOf
       → (readGround (Made manyOf) ≡ a) × (meshLists v′ n′ i′ [] ≡ leavesMesh a (groundMesh g) (meshLists v n i []))
   unfolding readGround groundMesh meshVertices meshNormals meshIndices groundVertices groundNormals
@@ -263,29 +262,15 @@ module _ (g : Ground) where
   unfolding readGround
   ground-stays before r t = (t, mesh-stays (groundMesh g) before t)
 
-  module _ (before : Mesh) where
-    pub ring-long : 3 * 1024 < length (g .ring) → refused 1 1024 ≡ groundAnswer g before
-    unfolding groundAnswer groundInput groundLimits groundRagged orElse judge refuse longer
-    ring-long h = rw (lt-ltb (3 * 1024) (length (g .ring)) h)
+  -- the answer, by what the check of the input told
+  module _ (before : Mesh) {k : Check} (told : found k ≡ groundInput g) where
+    pub ground-turned-back : {r : Refusal} → k ≡ Faulty r → refused (numberOf r) (placeOf r) ≡ groundAnswer g before
+    unfolding groundAnswer judge found
+    ground-turned-back h = rw (← told, h)
 
-    module _ (fits : length (g .ring) ≤ 3 * 1024) where
-      pub grid-long : gridLong (g .rows) ≡ true → refused 1 1024 ≡ groundAnswer g before
-      unfolding groundAnswer groundInput groundLimits groundRagged orElse judge refuse longer
-      grid-long e = rw (le-ltb (3 * 1024) (length (g .ring)) fits, e)
-
-      module _ (short : gridLong (g .rows) ≡ false) where
-        pub ring-uneven : (length (g .ring) % 3 ≡ 0 → ⊥) → refused 2 0 ≡ groundAnswer g before
-        unfolding groundAnswer groundInput groundLimits groundRagged orElse judge refuse longer uneven
-        ring-uneven h = rw (le-ltb (3 * 1024) (length (g .ring)) fits, short, ne-eqb (length (g .ring) % 3) 0 h)
-
-        module _ (even : length (g .ring) % 3 ≡ 0) where
-          pub grid-ragged : gridRagged (g .rows) (length (g .left)) (length (g .right)) ≡ true → refused 2 1 ≡ groundAnswer g before
-          unfolding groundAnswer groundInput groundLimits groundRagged orElse judge refuse longer uneven
-          grid-ragged e = rw (le-ltb (3 * 1024) (length (g .ring)) fits, short, eq-eqb (length (g .ring) % 3) 0 even, e)
-
-          pub ground-checked : gridRagged (g .rows) (length (g .left)) (length (g .right)) ≡ false → groundResult g before ≡ groundAnswer g before
-          unfolding groundAnswer groundInput groundLimits groundRagged orElse judge refuse longer uneven
-          ground-checked e = rw (le-ltb (3 * 1024) (length (g .ring)) fits, short, eq-eqb (length (g .ring) % 3) 0 even, e)
+    pub ground-goes-on : k ≡ Fine → groundResult g before ≡ groundAnswer g before
+    unfolding groundAnswer judge found
+    ground-goes-on h = rw (← told, h)
 
   -- ---- the refusals and the answer, written out
 

@@ -47,8 +47,8 @@ last-end w a ws zero h = absurd (h refl)
 last-end w a ws (suc k) h = rw sub-one
 
 -- a length compared without a difference
-pub far : (limit s e : ℕ) → ltb (s + limit) e ≡ ltb limit (e - s)
-far limit s e =
+pub without-difference : (limit s e : ℕ) → ltb (s + limit) e ≡ ltb limit (e - s)
+without-difference limit s e =
     elim (decLt (s + limit) e) [
       | yes p ↦ lt-ltb (s + limit) e p ∙ sym (lt-ltb limit (e - s) (omega arith))
       | no p ↦ le-ltb (s + limit) e (omega arith) ∙ sym (le-ltb limit (e - s) (omega arith))

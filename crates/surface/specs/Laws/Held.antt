@@ -2,7 +2,7 @@
 use mathlib.Core.Path.{_≡_, refl, ap, _∙_}
 use mathlib.Core.Bool.{Bool, true, false, cond, _||_}
 use mathlib.Core.List.{List}
-use Prim.Native.Nat.{ℕ, zero, suc, _+_, _-_, _*_, _/_, _≤_, _<_}
+use Prim.Native.Nat.{ℕ, zero, suc, _+_, _*_, _/_, _≤_, _<_}
 use native.Mathlib.Numerals.{add-one}
 use native.Mathlib.Decide.{decLt}
 use native.Mathlib.Omega.{arith}
@@ -17,7 +17,7 @@ use Rattle.shape.specs.Laws.Gather.{gather-even, or-left, or-right}
 use Rattle.surface.specs.declared.held.Sizes.{Sizes}
 use Rattle.surface.specs.declared.file.Form.the-variants.{Held}
 use Rattle.surface.specs.File.{kindOf, spareUsed, badRecord, kindBefore, badAt, parts, heldRecord, heldFault}
-use Rattle.surface.specs.Held.{howMany, isKind, countKind, sizesOf, placeIn, normalIn, cornersIn, verticesOf, normalsOf, indicesOf}
+use Rattle.surface.specs.Held.{howMany, isKind, countKind, sizesOf, placeIn, normalIn, cornersIn, verticesIn, normalsIn, indicesIn}
 use Rattle.surface.specs.Laws.File.{faultless, whole-held}
 use Rattle.surface.specs.Laws.Records.{positive}
 
@@ -63,16 +63,16 @@ sized ws s e =
 -- ---- the lists of the mesh are in threes
 
 module _ (ws : List ℕ) where
-  pub vertices-length : length (verticesOf ws) ≡ 3 * countKind ws 1
-  unfolding verticesOf placeIn
+  pub vertices-length : length (verticesIn ws) ≡ 3 * countKind ws 1
+  unfolding verticesIn placeIn
   vertices-length = gather-even (placeIn ws) 3 (λ i. refl) (countKind ws 1)
 
-  pub normals-length : length (normalsOf ws) ≡ 3 * countKind ws 1
-  unfolding normalsOf normalIn
+  pub normals-length : length (normalsIn ws) ≡ 3 * countKind ws 1
+  unfolding normalsIn normalIn
   normals-length = gather-even (normalIn ws) 3 (λ i. refl) (countKind ws 1)
 
-  pub indices-length : length (indicesOf ws) ≡ 3 * countKind ws 2
-  unfolding indicesOf cornersIn
+  pub indices-length : length (indicesIn ws) ≡ 3 * countKind ws 2
+  unfolding indicesIn cornersIn
   indices-length = gather-even (cornersIn ws) 3 (λ i. refl) (countKind ws 2)
 
 -- ---- "kinds never fall": where the records of a kind stand

@@ -2,31 +2,31 @@
 use mathlib.Core.Path.{_≡_, refl, sym, ap, _∙_, subst}
 use mathlib.Core.Bool.{Bool, true, false}
 use mathlib.Core.List.{List, [], append-nil}
-use Prim.Native.Nat.{ℕ, zero, suc, _+_, _*_, _/_, _%_, _≤_, _<_}
+use Prim.Native.Nat.{ℕ, _+_, _*_, _/_, _%_, _≤_, _<_}
 use native.Mathlib.Nat.{add-zero}
 use native.Mathlib.Omega.{arith}
 use borrow.Author.Tests.{ltb-false, le-ltb, eq-eqb}
 use lib.Dec.{ltb}
 use lib.Ieee.{Float, nan}
-use lib.ListN.{length, getD, take, drop, replicate, length-append, length-replicate}
+use lib.ListN.{length, getD, drop, replicate, length-append, length-replicate}
 use lib.Seq.{take-append-seam}
 use Rattle.shape.specs.Gather.{gather, any}
 use Rattle.shape.specs.Lists.{longer, uneven, meshFault}
 use Rattle.shape.specs.Refusal.{Fault, fine, fault, refuse, Answer, taken, refused, judge, leaves}
 use Rattle.shape.specs.Laws.Gather.{gather-most, gather-even, gather-at}
-use Rattle.lookup.specs.Index.{candidatesOf, indexWords, buildOf, roomFault, answerTo}
+use Rattle.lookup.specs.Index.{candidatesOf, indexWords, buildOf, indexRoom, answerTo}
 use Rattle.lookup.specs.Demand3.{BuiltFrom}
 use Rattle.lookup.specs.Sampler.{Sample, hit, miss, sampleIn, topFault, topOf}
 use Rattle.lookup.specs.Consult.{headFault, consultOf}
 use Rattle.lookup.specs.Mesh.{triangles}
 use Rattle.lookup.specs.Batch.{recordWords, recordOf, recordAt, recordsOf, countAnswer, topsOf}
-use Rattle.lookup.specs.Laws.Index.{Hands, hands}
+use Rattle.lookup.specs.Laws.Index.{hands}
 use Rattle.lookup.specs.Laws.Limits.{judged}
 use Rattle.lookup.specs.Laws.Demand3.{top-taken, words-fit}
 use Rattle.surface.specs.declared.file.Copied.{Copied}
 use Rattle.surface.specs.declared.file.Copied.the-variants.{Count}
 use Rattle.surface.specs.File.{wordsOf, fileFault, copyOf, readCopied}
-use Rattle.surface.specs.Held.{howMany, isKind, countKind, verticesOf, normalsOf, indicesOf, laneOf, questionAt, pointIn, pointsOf}
+use Rattle.surface.specs.Held.{howMany, isKind, countKind, verticesIn, normalsIn, indicesIn, laneIn, questionAt, pointIn, pointsOf}
 use Rattle.surface.specs.Report.{meshIn, indexIn, given, sampleAt, lineOf, lineAt, answeredAt, linesOf, orRefused, reportOf, reportAnswer}
 use Rattle.surface.specs.ReportSteps.{recordIn, recordsIn}
 use Rattle.surface.specs.Laws.File.{gather-within, words-length, whole-file, copied}
@@ -45,7 +45,7 @@ unfolding lineAt lineOf
 line-few ws k = go (sampleAt ws k)
   where
     go : (s : Sample) → length (lineOf ws k s) ≤ 100
-    go (hit h n t d) = found-few k h n t (laneOf ws t)
+    go (hit h n t d) = found-few k h n t (laneIn ws t)
     go miss = none-few k
 
 -- of the first n lines
@@ -93,10 +93,10 @@ module _ (ws : List ℕ) where
   pub mesh-fine : length ws ≤ 16384 → meshFault (meshIn ws) ≡ fine
   unfolding meshFault meshIn refuse longer uneven any
   mesh-fine h =
-      let v : length (verticesOf ws) ≤ 196608 = omega (arith, vertices-length ws, kind-most ws 1 h) in
-      let n : length (normalsOf ws) ≤ 196608 = omega (arith, normals-length ws, kind-most ws 1 h) in
-      let i : length (indicesOf ws) ≤ 196608 = omega (arith, indices-length ws, kind-most ws 2 h) in
-      rw (le-ltb 196608 (length (verticesOf ws)) v, le-ltb 196608 (length (normalsOf ws)) n, le-ltb 196608 (length (indicesOf ws)) i, eq-eqb (length (verticesOf ws) % 3) 0 (three _ _ (vertices-length ws)), eq-eqb (length (normalsOf ws) % 3) 0 (three _ _ (normals-length ws)))
+      let v : length (verticesIn ws) ≤ 196608 = omega (arith, vertices-length ws, kind-most ws 1 h) in
+      let n : length (normalsIn ws) ≤ 196608 = omega (arith, normals-length ws, kind-most ws 1 h) in
+      let i : length (indicesIn ws) ≤ 196608 = omega (arith, indices-length ws, kind-most ws 2 h) in
+      rw (le-ltb 196608 (length (verticesIn ws)) v, le-ltb 196608 (length (normalsIn ws)) n, le-ltb 196608 (length (indicesIn ws)) i, eq-eqb (length (verticesIn ws) % 3) 0 (three _ _ (vertices-length ws)), eq-eqb (length (normalsIn ws) % 3) 0 (three _ _ (normals-length ws)))
 
   pub build-fine : length ws ≤ 16384 → buildOf (meshIn ws) 16384 ≡ answerTo (indexIn ws) 16384
   unfolding buildOf judge meshIn indexIn
@@ -145,7 +145,7 @@ module _ (k : ℕ) where
 
 module _ (ws : List ℕ) (few : length ws ≤ 16384) {n : ℕ} (t : buildOf (meshIn ws) 16384 ≡ taken n) where
   pub built-size : n ≡ length (indexIn ws)
-  unfolding answerTo roomFault
+  unfolding answerTo indexRoom
   built-size = let k = length (indexIn ws) in size-taken k (ltb 4194304 k) (ltb 16384 k) n (sym t ∙ build-fine ws few)
 
   built-from : (before : List ℕ) → length before ≡ 16384 → BuiltFrom (meshIn ws) (indexIn ws)
@@ -166,7 +166,7 @@ module _ (ws : List ℕ) (few : length ws ≤ 16384) {n : ℕ} (t : buildOf (mes
   whole before e = refl
 
   -- where the index is built, no lookup in it is turned back: the candidates are the index's own, and the best of them is the answer
-  pub never-refused : (x y : Float) → topOf (meshIn ws) (indexIn ws) x y ≡ taken (sampleIn (meshIn ws) x y (candidatesOf (verticesOf ws) (indicesOf ws) x y))
+  pub never-refused : (x y : Float) → topOf (meshIn ws) (indexIn ws) x y ≡ taken (sampleIn (meshIn ws) x y (candidatesOf (verticesIn ws) (indicesIn ws) x y))
   unfolding meshIn
   never-refused x y =
       let o = replicate {A = ℕ} 16384 0 in
@@ -175,11 +175,11 @@ module _ (ws : List ℕ) (few : length ws ≤ 16384) {n : ℕ} (t : buildOf (mes
       top-taken (meshIn ws) (indexIn ws) b x y (words-fit (meshIn ws) (indexIn ws) b (whole o e))
 
   -- the index's first words are those of an index of the mesh
-  head-fine : headFault (indexIn ws) (triangles (indicesOf ws)) ≡ fine
+  head-fine : headFault (indexIn ws) (triangles (indicesIn ws)) ≡ fine
   unfolding indexIn consultOf
   head-fine =
-      let vs = verticesOf ws in
-      let is = indicesOf ws in
+      let vs = verticesIn ws in
+      let is = indicesIn ws in
       let h = hands vs is [] nan nan in
       let e = subst (λ (o : List ℕ). consultOf o (triangles is) nan nan ≡ taken (h .place)) (append-nil (indexWords vs is)) (h .answers) in
       judged (headFault (indexWords vs is) (triangles is)) _ _ e .0

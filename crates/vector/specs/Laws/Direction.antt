@@ -17,7 +17,7 @@ use lib.Ieee.Scale.{finite}
 use Rattle.rounding.specs.Root.{sqrtOf}
 use Rattle.rounding.specs.Laws.Order.{IsNum, le→Le, Le→le, le-num-left, le-trans, le-of-lt, le-or-lt, lt→not-le, lt-num-right, zeros}
 use Rattle.rounding.specs.Laws.Rounding.{Signed, round-signed, round-minus, neg-is, neg-anti}
-use Rattle.rounding.specs.Laws.Held.{held}
+use Rattle.rounding.specs.Laws.Representable.{held}
 use Rattle.rounding.specs.Laws.Sums.{add-num-left, add-num-right}
 use Rattle.rounding.specs.Laws.Products.{mul-mono, mul-mono-right, mul-mono-signed, mul-num-finite}
 use Rattle.rounding.specs.Laws.Quotients.{div-fin}

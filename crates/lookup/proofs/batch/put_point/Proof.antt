@@ -36,7 +36,9 @@ shared-slice-read-y : tie.Need-shared-slice-read-y
 shared-slice-read-y c = search needs
 
 sample-in-requires : tie.Need-sample-in-requires
-sample-in-requires c κs = (c .before .before .before .before .before .before .before .before .before .pre .0, c .before .before .before .before .before .before .before .before .before .pre .1 .0)
+sample-in-requires c κs =
+    let start = c .before .before .before .before .before .before .before .before .before in
+    (start .pre .0, start .pre .1 .0)
 
 put-record-requires : tie.Need-put-record-requires
 put-record-requires c κs =

@@ -55,31 +55,43 @@ enum-known-h : tie.Need-enum-known-h
 enum-known-h c = search needs
 
 tops-open-requires : tie.Need-tops-open-requires
-tops-open-requires c κs = (fine-at (c .before .before .before .before .before .before), open-is _ _ (c .before .before .before .before .«open» .ensures) (c .before .before .h .given .1))
+tops-open-requires c κs =
+    let at-open = c .before .before .before .before in
+    (fine-at (at-open .before .before), open-is _ _ (at-open .«open» .ensures) (c .before .before .h .given .1))
 
 returns-3 : tie.Need-returns-3
 unfolding readSampling
-returns-3 c = said-foreign (M (T (c .before .before .before .before .before .before .before))) _ _ _ (fine-at (c .before .before .before .before .before)) (c .before .before .before .before .if1 .left) (head-is _ _ (c .before .before .before .«open» .ensures) (c .before .r .given .1))
+returns-3 c =
+    let at-open = c .before .before .before in
+    let at-top-fault = at-open .before .before .before .before in
+    said-foreign (M (T at-top-fault)) _ _ _ (fine-at (at-open .before .before)) (at-open .before .if1 .left)
+    (head-is _ _ (at-open .«open» .ensures) (c .before .r .given .1))
 
 same-length : tie.Need-same-length
 same-length c = search needs
 
 returns-4 : tie.Need-returns-4
 returns-4 c =
-    let o = c .before .before .before .before .before .before in
-    let s = T (o .before .before .before .before) in
+    let at-enum-told2 = c .before .before .before .before in
+    let o = at-enum-told2 .before .before in
+    let at-top-fault = o .before .before .before .before in
+    let s = T at-top-fault in
     let f = fine-at (o .before .before) in
-    let e = empty-is _ _ (o .«open» .ensures) (c .before .before .before .before .enum-told2 .given .1) in
-    said-rest (M s) _ _ (s .args .answers .now) f (o .before .if1 .left) (e .0) (all-same (M s) _ _ (taken miss) (λ x y. nothing (M s) _ x y f (e .1 x y))) (c .before .before .tops-empty .ensures)
+    let e = empty-is _ _ (o .«open» .ensures) (at-enum-told2 .enum-told2 .given .1) in
+    said-rest (M s) _ _ (s .args .answers .now) f (o .before .if1 .left) (e .0)
+    (all-same (M s) _ _ (taken miss) (λ x y. nothing (M s) _ x y f (e .1 x y))) (c .before .before .tops-empty .ensures)
 
 same-length-2 : tie.Need-same-length-2
 same-length-2 c = search needs
 
 returns-5 : tie.Need-returns-5
 returns-5 c =
-    let o = c .before .before .before .before .before .before .before in
-    let s = T (o .before .before .before .before) in
-    said-rest (M s) _ _ (s .args .answers .now) (fine-at (o .before .before)) (o .before .if1 .left) (open-is _ _ (o .«open» .ensures) (c .before .before .before .before .before .h .given .1) .sound) refl (c .before .before .tops-open .ensures)
+    let at-h = c .before .before .before .before .before in
+    let o = at-h .before .before in
+    let at-top-fault = o .before .before .before .before in
+    let s = T at-top-fault in
+    said-rest (M s) _ _ (s .args .answers .now) (fine-at (o .before .before)) (o .before .if1 .left)
+    (open-is _ _ (o .«open» .ensures) (at-h .h .given .1) .sound) refl (c .before .before .tops-open .ensures)
 
 pub tops-spec : {M : Type 1} → statement M
 tops-spec =

@@ -51,10 +51,11 @@ loop-less c = omega (arith, c .before .before .before .before .loop-test)
 loop-again : tie.Need-loop-again Inv-loop μ-loop
 unfolding readSampled
 loop-again c =
-    let l = c .before .before .before .before .before .loop .inv in
+    let at-loop-test = c .before .before .before .before in
+    let l = at-loop-test .before .loop .inv in
     let p = c .before .before .put-record .ensures in
     let e = record-next (taken miss) p in
-    (put-turn (λ (i : ℕ). recordOf (taken miss)) _ (l .0) p, (omega (arith, e, l .1), omega (arith, c .before .before .before .before .loop-test)))
+    (put-turn (λ (i : ℕ). recordOf (taken miss)) _ (l .0) p, (omega (arith, e, l .1), omega (arith, at-loop-test .loop-test)))
 
 same-length : tie.Need-same-length Inv-loop μ-loop
 same-length c = put-length (c .before .loop .inv .0)

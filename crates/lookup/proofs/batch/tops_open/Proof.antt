@@ -44,11 +44,12 @@ loop-holds c = (put-none _ 0, (omega arith, omega arith))
 
 put-point-requires : tie.Need-put-point-requires Inv-loop μ-loop
 put-point-requires c κs =
-    let s = S (c .before .before .before .before) in
+    let at-if1 = c .before .before .before in
+    let s = S (at-if1 .before) in
     let l = c .before .before .loop .inv in
     let p = put-length (l .0) in
     let t = c .before .loop-test in
-    (s .pre .0, (s .pre .1, (omega (arith, t), omega (arith, l .1, p, c .before .before .before .if1 .left, t))))
+    (s .pre .0, (s .pre .1, (omega (arith, t), omega (arith, l .1, p, at-if1 .if1 .left, t))))
 
 add-k : tie.Need-add-k Inv-loop μ-loop
 add-k c = omega (arith, c .before .before .before .before .loop-test)
@@ -58,10 +59,11 @@ loop-less c = omega (arith, c .before .before .before .before .loop-test)
 
 loop-again : tie.Need-loop-again Inv-loop μ-loop
 loop-again c =
-    let l = c .before .before .before .before .before .loop .inv in
+    let at-loop-test = c .before .before .before .before in
+    let l = at-loop-test .before .loop .inv in
     let p = c .before .before .put-point .ensures in
     let e = at-next _ _ _ _ p in
-    (put-turn (recordAt _ _ _) _ (l .0) p, (omega (arith, e, l .1), omega (arith, c .before .before .before .before .loop-test)))
+    (put-turn (recordAt _ _ _) _ (l .0) p, (omega (arith, e, l .1), omega (arith, at-loop-test .loop-test)))
 
 same-length : tie.Need-same-length Inv-loop μ-loop
 same-length c = put-length (c .before .loop .inv .0)

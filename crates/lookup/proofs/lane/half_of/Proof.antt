@@ -34,9 +34,13 @@ sub-t8 c = search needs
 
 returns-2 : tie.Need-returns-2
 returns-2 c =
-    let s = c .before .before .before .before .before .before .before .before .before in
-    let a = s .args in
-    (half (a .spans .now) (a .i) _ (a .p .low) (a .p .size) (c .before .before .wide .result) (c .before .moved .result) (s .pre .1 .0) (s .pre .1 .1) (c .before .before .before .before .before .before .if1 .left) (c .before .before .wide .ensures) (c .before .moved .ensures), omega arith)
+    let at-if1 = c .before .before .before .before .before .before in
+    let s = at-if1 .before .before .before in
+    let a = s .args in (
+      half (a .spans .now) (a .i) _ (a .p .low) (a .p .size) (c .before .before .wide .result) (c .before .moved .result) (s .pre .1 .0)
+          (s .pre .1 .1) (at-if1 .if1 .left) (c .before .before .wide .ensures) (c .before .moved .ensures),
+      omega arith,
+    )
 
 pub half-of-spec : {M : Type 1} → statement M
 half-of-spec =

@@ -19,8 +19,9 @@ record-word-requires-2 c κs = search needs
 
 returns : tie.Need-returns
 returns c =
-    rw (c .record-word2 .ensures .0)
-    (lane-id _ _ _ (c .before .before .before .before .span-past .ensures) (c .before .before .before .if1 .taken) (rw (c .before .before .record-word .ensures .0) at (c .before .if2 .taken)))
+    let at-if1 = c .before .before .before in
+    rw (c .record-word2 .ensures .0) (lane-id _ _ _ (at-if1 .before .span-past .ensures) (at-if1 .if1 .taken)
+    (rw (c .before .before .record-word .ensures .0) at (c .before .if2 .taken)))
 
 returns-2 : tie.Need-returns-2
 returns-2 c = lane-before _ _ _ (c .before .before .before .span-past .ensures) (c .before .before .if1 .taken) (rw (c .before .record-word .ensures .0) at (c .if2 .left))

@@ -37,7 +37,19 @@ smooth-requires c κs = search needs
 
 returns : tie.Need-returns
 unfolding blendOf
-returns c = rw (add-zero, c .smooth .ensures, c .before .normal-at3 .ensures, c .before .before .word-at3 .ensures .0, c .before .before .before .normal-at2 .ensures, c .before .before .before .before .word-at2 .ensures .0, c .before .before .before .before .before .normal-at .ensures, c .before .before .before .before .before .before .word-at .ensures .0)
+returns c =
+    let at-normal-at2 = c .before .before .before in
+    let at-word-at = at-normal-at2 .before .before .before in
+    rw (
+      add-zero,
+      c .smooth .ensures,
+      c .before .normal-at3 .ensures,
+      c .before .before .word-at3 .ensures .0,
+      at-normal-at2 .normal-at2 .ensures,
+      at-normal-at2 .before .word-at2 .ensures .0,
+      at-normal-at2 .before .before .normal-at .ensures,
+      at-word-at .word-at .ensures .0,
+    )
 
 pub blend-spec : {M : Type 1} → statement M
 blend-spec =

@@ -84,13 +84,28 @@ point-at-requires-3 : tie.Need-point-at-requires-3
 point-at-requires-3 c κs = search needs
 
 returns : tie.Need-returns
-returns c = rw (c .before .before .point-at .ensures, c .before .point-at2 .ensures, c .point-at3 .ensures) (all _ _ _ (c .before .before .before .before .before .before .before .before .before .before .before .before .if1 .taken) _ (c .before .before .before .before .before .before .before .before .before .before .wide .ensures) (c .before .before .before .before .before .before .before .before .before .if2 .taken) _ (c .before .before .before .before .before .before .before .wide2 .ensures) (c .before .before .before .before .before .before .if3 .taken) _ (c .before .before .before .before .wide3 .ensures) (c .before .before .before .if4 .taken))
+returns c =
+    let at-if4 = c .before .before .before in
+    let at-if3 = at-if4 .before .before .before in
+    let at-if2 = at-if3 .before .before .before in
+    let at-if1 = at-if2 .before .before .before in
+    rw (c .before .before .point-at .ensures, c .before .point-at2 .ensures, c .point-at3 .ensures)
+    (all _ _ _ (at-if1 .if1 .taken) _ (at-if2 .before .wide .ensures) (at-if2 .if2 .taken) _ (at-if3 .before .wide2 .ensures)
+    (at-if3 .if3 .taken) _ (at-if4 .before .wide3 .ensures) (at-if4 .if4 .taken))
 
 returns-2 : tie.Need-returns-2
-returns-2 c = no-c _ _ _ (c .before .before .before .before .before .before .before .before .before .if1 .taken) _ (c .before .before .before .before .before .before .before .wide .ensures) (c .before .before .before .before .before .before .if2 .taken) _ (c .before .before .before .before .wide2 .ensures) (c .before .before .before .if3 .taken) _ (c .before .wide3 .ensures) (c .if4 .left)
+returns-2 c =
+    let at-if3 = c .before .before .before in
+    let at-if2 = at-if3 .before .before .before in
+    let at-if1 = at-if2 .before .before .before in
+    no-c _ _ _ (at-if1 .if1 .taken) _ (at-if2 .before .wide .ensures) (at-if2 .if2 .taken) _ (at-if3 .before .wide2 .ensures)
+    (at-if3 .if3 .taken) _ (c .before .wide3 .ensures) (c .if4 .left)
 
 returns-3 : tie.Need-returns-3
-returns-3 c = no-b _ _ _ (c .before .before .before .before .before .before .if1 .taken) _ (c .before .before .before .before .wide .ensures) (c .before .before .before .if2 .taken) _ (c .before .wide2 .ensures) (c .if3 .left)
+returns-3 c =
+    let at-if2 = c .before .before .before in
+    let at-if1 = at-if2 .before .before .before in
+    no-b _ _ _ (at-if1 .if1 .taken) _ (at-if2 .before .wide .ensures) (at-if2 .if2 .taken) _ (c .before .wide2 .ensures) (c .if3 .left)
 
 returns-4 : tie.Need-returns-4
 returns-4 c = no-a _ _ _ (c .before .before .before .if1 .taken) _ (c .before .wide .ensures) (c .if2 .left)

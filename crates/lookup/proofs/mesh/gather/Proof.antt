@@ -33,7 +33,9 @@ mul-wide : tie.Need-mul-wide Inv-loop μ-loop
 mul-wide c = search needs
 
 shared-slice-read-wide : tie.Need-shared-slice-read-wide Inv-loop μ-loop
-shared-slice-read-wide c = omega (arith, c .before .before .before .before .before .before .before .before .before .pre, c .before)
+shared-slice-read-wide c =
+    let start = c .before .before .before .before .before .before .before .before .before in
+    omega (arith, start .pre, c .before)
 
 wide-requires : tie.Need-wide-requires Inv-loop μ-loop
 wide-requires c κs = search needs
@@ -55,28 +57,55 @@ loop-less c = omega (arith, c .before .before .before .before .before)
 
 loop-again : tie.Need-loop-again Inv-loop μ-loop
 loop-again c =
-    let l = c .before .before .before .before .before .before .loop .inv in
-    (omega (arith, c .before .before .before .before .before), l .1, l .2, l .3, gather-pass _ _ _ _ _ (l .4) (c .before .before .before .wide .ensures) (sym (c .enum-told .given .1) ∙ c .before .before .corners .ensures))
+    let at-wide = c .before .before .before in
+    let at-loop = at-wide .before .before .before in
+    let l = at-loop .loop .inv in (
+      omega (arith, at-wide .before .before),
+      l .1,
+      l .2,
+      l .3,
+      gather-pass _ _ _ _ _ (l .4) (at-wide .wide .ensures) (sym (c .enum-told .given .1) ∙ c .before .before .corners .ensures),
+    )
 
 put-ground-requires : tie.Need-put-ground-requires Inv-loop μ-loop
-put-ground-requires c κs = let k = W (c .before .before .before .before) in omega (arith, k .before .before .before .before .before .before .before .before .before .pre, k .before .before .loop .inv, k .before .loop-test)
+put-ground-requires c κs =
+    let at-corners = c .before .before .before .before in
+    let k = W at-corners in
+    let start = k .before .before .before .before .before .before .before .before .before in
+    omega (arith, start .pre, k .before .before .loop .inv, k .before .loop-test)
 
 put-ground-requires-2 : tie.Need-put-ground-requires-2 Inv-loop μ-loop
-put-ground-requires-2 c κs = let k = W (G (c .before .before .before)) in omega (arith, k .before .before .before .before .before .before .before .before .before .pre, k .before .before .loop .inv, k .before .loop-test)
+put-ground-requires-2 c κs =
+    let at-put-ground = c .before .before .before in
+    let k = W (G at-put-ground) in
+    let start = k .before .before .before .before .before .before .before .before .before in
+    omega (arith, start .pre, k .before .before .loop .inv, k .before .loop-test)
 
 put-ground-requires-3 : tie.Need-put-ground-requires-3 Inv-loop μ-loop
-put-ground-requires-3 c κs = let k = W (G (c .before .before .before .before .before .before .before)) in omega (arith, k .before .before .before .before .before .before .before .before .before .pre, k .before .before .loop .inv, k .before .loop-test)
+put-ground-requires-3 c κs =
+    let at-put-ground = c .before .before .before .before .before .before .before in
+    let k = W (G at-put-ground) in
+    let start = k .before .before .before .before .before .before .before .before .before in
+    omega (arith, start .pre, k .before .before .loop .inv, k .before .loop-test)
 
 add-k-2 : tie.Need-add-k-2 Inv-loop μ-loop
-add-k-2 c = let p = c .before .before .before .before .before .before in let k = W (G (p .before .before .before .before)) in omega (arith, k .before .before .loop .inv, k .before .loop-test)
+add-k-2 c =
+    let p = c .before .before .before .before .before .before in
+    let k = W (G (p .before .before .before .before)) in
+    omega (arith, k .before .before .loop .inv, k .before .loop-test)
 
 loop-less-2 : tie.Need-loop-less-2 Inv-loop μ-loop
-loop-less-2 c = let p = c .before .before .before .before .before .before in let k = W (G (p .before .before .before .before)) in omega (arith, k .before .before .loop .inv, k .before .loop-test)
+loop-less-2 c =
+    let p = c .before .before .before .before .before .before in
+    let at-put-ground = p .before .before .before .before in
+    let k = W (G at-put-ground) in
+    omega (arith, k .before .before .loop .inv, k .before .loop-test)
 
 loop-again-2 : tie.Need-loop-again-2 Inv-loop μ-loop
 loop-again-2 c =
     let q = c .before .before .before .before .before .before in
     let p = q .before .before .before .before in
+    let at-a = p .before .before .before in
     let f = G p in
     let k = W f in
     let l = k .before .before .loop .inv in (
@@ -84,7 +113,8 @@ loop-again-2 c =
       search needs,
       search needs,
       search needs,
-      gather-step _ _ _ _ _ (l .4) (f .before .wide .ensures) (sym (p .before .before .before .a .given .1) ∙ f .corners .ensures) (p .put-ground .ensures) (q .put-ground2 .ensures) (c .before .before .put-ground3 .ensures),
+      gather-step _ _ _ _ _ (l .4) (f .before .wide .ensures) (sym (at-a .a .given .1) ∙ f .corners .ensures) (p .put-ground .ensures)
+          (q .put-ground2 .ensures) (c .before .before .put-ground3 .ensures),
     )
 
 same-length : tie.Need-same-length Inv-loop μ-loop

@@ -56,10 +56,17 @@ returns : tie.Need-returns
 returns c = turned-back _ _ _ (c .before .before .before .mesh-fault .ensures) (c .before .refusal .given .1)
 
 returns-2 : tie.Need-returns-2
-returns-2 c = rw (c .normal-of .ensures) (best _ _ _ (c .before .before .before .before .before .before .before .mesh-fault .ensures) (c .before .before .before .before .before .enum-told .given .1) (c .before .before .before .before .highest-of-all .ensures) (c .before .before .h .given .1))
+returns-2 c =
+    let at-highest-of-all = c .before .before .before .before in
+    let at-mesh-fault = at-highest-of-all .before .before .before in
+    rw (c .normal-of .ensures) (best _ _ _ (at-mesh-fault .mesh-fault .ensures) (at-highest-of-all .before .enum-told .given .1)
+    (at-highest-of-all .highest-of-all .ensures) (c .before .before .h .given .1))
 
 returns-3 : tie.Need-returns-3
-returns-3 c = nothing _ _ _ (c .before .before .before .before .before .mesh-fault .ensures) (c .before .before .before .enum-told .given .1) (c .before .before .highest-of-all .ensures) (c .enum-told2 .given .1)
+returns-3 c =
+    let at-enum-told = c .before .before .before in
+    nothing _ _ _ (at-enum-told .before .before .mesh-fault .ensures) (at-enum-told .enum-told .given .1)
+    (c .before .before .highest-of-all .ensures) (c .enum-told2 .given .1)
 
 pub height-at-spec : {M : Type 1} → statement M
 height-at-spec =

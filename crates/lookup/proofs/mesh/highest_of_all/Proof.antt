@@ -36,10 +36,15 @@ loop-less : tie.Need-loop-less Inv-loop μ-loop
 loop-less c = omega (arith, c .before .before .before)
 
 loop-again : tie.Need-loop-again Inv-loop μ-loop
-loop-again c = (omega (arith, c .before .before .before), passed-missing _ _ _ _ _ _ refl _ (c .before .before .before .before .loop .inv .1) (sym (c .enum-told .given .1) ∙ c .before .before .corners .ensures))
+loop-again c =
+    let at-loop-test = c .before .before .before in (
+      omega (arith, at-loop-test),
+      passed-missing _ _ _ _ _ _ refl _ (at-loop-test .before .loop .inv .1)
+          (sym (c .enum-told .given .1) ∙ c .before .before .corners .ensures),
+    )
 
-far-requires : tie.Need-far-requires Inv-loop μ-loop
-far-requires c κs = search needs
+clearly-outside-requires : tie.Need-clearly-outside-requires Inv-loop μ-loop
+clearly-outside-requires c κs = search needs
 
 add-t-2 : tie.Need-add-t-2 Inv-loop μ-loop
 add-t-2 c = omega (arith, c .before .before .before .before .before .before)
@@ -48,7 +53,13 @@ loop-less-2 : tie.Need-loop-less-2 Inv-loop μ-loop
 loop-less-2 c = omega (arith, c .before .before .before .before .before .before)
 
 loop-again-2 : tie.Need-loop-again-2 Inv-loop μ-loop
-loop-again-2 c = (omega (arith, c .before .before .before .before .before .before), passed-outside _ _ _ _ _ _ refl _ (c .before .before .before .before .before .before .before .loop .inv .1) (sym (c .before .before .before .a .given .1) ∙ c .before .before .before .before .before .corners .ensures) (c .before .far .ensures (c .if1 .taken)))
+loop-again-2 c =
+    let at-a = c .before .before .before in
+    let at-loop-test = at-a .before .before .before in (
+      omega (arith, at-loop-test),
+      passed-outside _ _ _ _ _ _ refl _ (at-loop-test .before .loop .inv .1)
+          (sym (at-a .a .given .1) ∙ at-a .before .before .corners .ensures) (c .before .clearly-outside .ensures (c .if1 .taken)),
+    )
 
 weigh-requires : tie.Need-weigh-requires Inv-loop μ-loop
 weigh-requires c κs = search needs
@@ -63,7 +74,14 @@ loop-less-3 : tie.Need-loop-less-3 Inv-loop μ-loop
 loop-less-3 c = omega (arith, c .before .before .before .before .before .before .before .before .before)
 
 loop-again-3 : tie.Need-loop-again-3 Inv-loop μ-loop
-loop-again-3 c = (omega (arith, c .before .before .before .before .before .before .before .before .before), passed-outside _ _ _ _ _ _ refl _ (c .before .before .before .before .before .before .before .before .before .before .loop .inv .1) (sym (c .before .before .before .before .before .before .a .given .1) ∙ c .before .before .before .before .before .before .before .before .corners .ensures) (rw (← c .before .before .weigh .ensures) (sym (c .before .inside .ensures) ∙ not-true _ (c .if2 .taken))))
+loop-again-3 c =
+    let at-a = c .before .before .before .before .before .before in
+    let at-loop-test = at-a .before .before .before in (
+      omega (arith, at-loop-test),
+      passed-outside _ _ _ _ _ _ refl _ (at-loop-test .before .loop .inv .1)
+          (sym (at-a .a .given .1) ∙ at-a .before .before .corners .ensures)
+          (rw (← c .before .before .weigh .ensures) (sym (c .before .inside .ensures) ∙ not-true _ (c .if2 .taken))),
+    )
 
 height-requires : tie.Need-height-requires Inv-loop μ-loop
 height-requires c κs = search needs
@@ -72,13 +90,29 @@ higher-requires : tie.Need-higher-requires Inv-loop μ-loop
 higher-requires c κs = search needs
 
 add-t-4 : tie.Need-add-t-4 Inv-loop μ-loop
-add-t-4 c = omega (arith, c .before .before .before .before .before .before .before .before .before .before .before)
+add-t-4 c =
+    let at-clearly-outside = c .before .before .before .before .before .before in
+    let at-loop-test = at-clearly-outside .before .before .before .before .before in
+    omega (arith, at-loop-test)
 
 loop-less-4 : tie.Need-loop-less-4 Inv-loop μ-loop
-loop-less-4 c = omega (arith, c .before .before .before .before .before .before .before .before .before .before .before)
+loop-less-4 c =
+    let at-clearly-outside = c .before .before .before .before .before .before in
+    let at-loop-test = at-clearly-outside .before .before .before .before .before in
+    omega (arith, at-loop-test)
 
 loop-again-4 : tie.Need-loop-again-4 Inv-loop μ-loop
-loop-again-4 c = (omega (arith, c .before .before .before .before .before .before .before .before .before .before .before), c .higher .ensures ∙ rw (c .before .height .ensures, c .before .before .before .before .weigh .ensures) (taken-inside _ _ _ _ _ _ refl _ (c .before .before .before .before .before .before .before .before .before .before .before .before .loop .inv .1) (sym (c .before .before .before .before .before .before .before .before .a .given .1) ∙ c .before .before .before .before .before .before .before .before .before .before .corners .ensures) (rw (← c .before .before .before .before .weigh .ensures) (sym (c .before .before .before .inside .ensures) ∙ not-false _ (c .before .before .if2 .left)))))
+loop-again-4 c =
+    let at-inside = c .before .before .before in
+    let at-weigh = at-inside .before in
+    let at-a = at-weigh .before .before .before .before in
+    let at-loop-test = at-a .before .before .before in (
+      omega (arith, at-loop-test),
+      c .higher .ensures
+          ∙ rw (c .before .height .ensures, at-weigh .weigh .ensures) (taken-inside _ _ _ _ _ _ refl _ (at-loop-test .before .loop .inv .1)
+          (sym (at-a .a .given .1) ∙ at-a .before .before .corners .ensures)
+          (rw (← at-weigh .weigh .ensures) (sym (at-inside .inside .ensures) ∙ not-false _ (c .before .before .if2 .left)))),
+    )
 
 returns : tie.Need-returns Inv-loop μ-loop
 returns c = let e : c .before .loop .t ≡ length (c .before .before .before .before .args .indices .now) / 3 = omega arith in rw (← e) (c .before .loop .inv .1)
@@ -96,7 +130,7 @@ highest-of-all-spec =
     add-t
     loop-less
     loop-again
-    far-requires
+    clearly-outside-requires
     add-t-2
     loop-less-2
     loop-again-2

@@ -5,15 +5,15 @@ use mathlib.Core.Path.{_≡_, sym, _∙_}
 use native.Mathlib.Omega.{arith}
 use borrow.Author.Tests.{not-true, not-false}
 use Rattle.lookup.specs.Plain.{scanOf, entryOf}
-use Rattle.lookup.specs.Sixteen.{Poised}
+use Rattle.lookup.specs.Sixteen.{PeakWeighed}
 use Rattle.lookup.proofs.Turns.{passed-missing, passed-outside, taken-inside}
-use Rattle.lookup.proofs.Sixteens.{pass-next, weighs, poised-next}
+use Rattle.lookup.proofs.Sixteens.{pass-next, weighs, weighed-next}
 use borrow.Author.Needs.{needs}
 use Rattle.lookup.proofs.mesh.low_turns.Statement.{statement}
 use Rattle.lookup.proofs.mesh.low_turns.Tie as tie
 
 abbrev Inv-loop : tie.InvT-loop
-Inv-loop vertices indices run from n low x y peak₀ k₀ peak k = (k ≤ n) × (peak .best ≡ scanOf vertices indices x y (entryOf run) (from + k)) × Poised vertices indices x y peak
+Inv-loop vertices indices run from n low x y peak₀ k₀ peak k = (k ≤ n) × (peak .best ≡ scanOf vertices indices x y (entryOf run) (from + k)) × PeakWeighed vertices indices x y peak
 
 abbrev μ-loop : tie.MeasureT-loop
 μ-loop vertices indices run from n low x y peak₀ k₀ peak k = n - k
@@ -42,19 +42,28 @@ loop-less c = omega (arith, c .before .before)
 
 loop-again : tie.Need-loop-again Inv-loop μ-loop
 loop-again c =
-    let l = c .before .before .before .loop in
-    let s = c .before .before .before .before .before .before .before .before in
-    let e : s .args .from + (l .k + 1) ≡ suc (s .args .from + l .k) = omega arith in
-    (omega (arith, c .before .before), pass-next _ _ _ _ _ _ _ _ (l .inv .1) (s .pre .1 .0 (l .k) (omega (arith, c .before .before)) (c .if1 .taken)) e, l .inv .2)
+    let at-loop = c .before .before .before in
+    let s = at-loop .before .before .before .before .before in
+    let l = at-loop .loop in
+    let e : s .args .from + (l .k + 1) ≡ suc (s .args .from + l .k) = omega arith in (
+      omega (arith, c .before .before),
+      pass-next _ _ _ _ _ _ _ _ (l .inv .1) (s .pre .1 .0 (l .k) (omega (arith, c .before .before)) (c .if1 .taken)) e,
+      l .inv .2,
+    )
 
 add-wide : tie.Need-add-wide Inv-loop μ-loop
-add-wide c = omega (arith, c .before .before .before .before .before .before .before .before .pre .0, c .before .before)
+add-wide c =
+    let start = c .before .before .before .before .before .before .before .before in
+    omega (arith, start .pre .0, c .before .before)
 
 mul-wide : tie.Need-mul-wide Inv-loop μ-loop
 mul-wide c = search needs
 
 shared-slice-read-wide : tie.Need-shared-slice-read-wide Inv-loop μ-loop
-shared-slice-read-wide c = omega (arith, c .before .before .before .before .before .before .before .before .before .pre .0, c .before .before .before)
+shared-slice-read-wide c =
+    let at-loop-test = c .before .before .before in
+    let start = at-loop-test .before .before .before .before .before .before in
+    omega (arith, start .pre .0, at-loop-test)
 
 wide-requires : tie.Need-wide-requires Inv-loop μ-loop
 wide-requires c κs = search needs
@@ -76,9 +85,16 @@ loop-less-2 c = let k = W (c .before .before) in omega (arith, k .before .before
 
 loop-again-2 : tie.Need-loop-again-2 Inv-loop μ-loop
 loop-again-2 c =
+    let at-wide = c .before .before .before in
     let k = W (c .before .before) in
-    let l = k .before .before .before .before .loop in
-    (omega (arith, k .before .before .before), rw (next (k .before .before .before .before .before .before .before .before .before .args .from) (l .k)) (passed-missing _ _ _ _ _ _ (c .before .before .before .wide .ensures) _ (l .inv .1) (sym (c .enum-told .given .1) ∙ c .before .before .corners .ensures)), l .inv .2)
+    let at-loop-test = k .before .before .before in
+    let start = at-loop-test .before .before .before .before .before .before in
+    let l = at-loop-test .before .loop in (
+      omega (arith, at-loop-test),
+      rw (next (start .args .from) (l .k))
+          (passed-missing _ _ _ _ _ _ (at-wide .wide .ensures) _ (l .inv .1) (sym (c .enum-told .given .1) ∙ c .before .before .corners .ensures)),
+      l .inv .2,
+    )
 
 weigh-requires : tie.Need-weigh-requires Inv-loop μ-loop
 weigh-requires c κs = search needs
@@ -94,9 +110,18 @@ loop-less-3 c = let k = W (c .before .before .before .before .before .before) in
 
 loop-again-3 : tie.Need-loop-again-3 Inv-loop μ-loop
 loop-again-3 c =
-    let k = W (c .before .before .before .before .before .before) in
-    let l = k .before .before .before .before .loop in
-    (omega (arith, k .before .before .before), rw (next (k .before .before .before .before .before .before .before .before .before .args .from) (l .k)) (passed-outside _ _ _ _ _ _ (c .before .before .before .before .before .before .before .wide .ensures) _ (l .inv .1) (sym (c .before .before .before .before .a .given .1) ∙ c .before .before .before .before .before .before .corners .ensures) (rw (← c .before .before .weigh .ensures) (sym (c .before .inside .ensures) ∙ not-true _ (c .if2 .taken)))), l .inv .2)
+    let at-a = c .before .before .before .before in
+    let at-corners = at-a .before .before in
+    let k = W at-corners in
+    let at-loop-test = k .before .before .before in
+    let start = at-loop-test .before .before .before .before .before .before in
+    let l = at-loop-test .before .loop in (
+      omega (arith, at-loop-test),
+      rw (next (start .args .from) (l .k))
+          (passed-outside _ _ _ _ _ _ (at-corners .before .wide .ensures) _ (l .inv .1) (sym (at-a .a .given .1) ∙ at-corners .corners .ensures)
+          (rw (← c .before .before .weigh .ensures) (sym (c .before .inside .ensures) ∙ not-true _ (c .if2 .taken)))),
+      l .inv .2,
+    )
 
 height-requires : tie.Need-height-requires Inv-loop μ-loop
 height-requires c κs = search needs
@@ -105,20 +130,35 @@ higher-requires : tie.Need-higher-requires Inv-loop μ-loop
 higher-requires c κs = search needs
 
 add-k-4 : tie.Need-add-k-4 Inv-loop μ-loop
-add-k-4 c = let k = W (c .before .before .before .before .before .before .before .before) in omega (arith, k .before .before .before)
+add-k-4 c =
+    let at-corners = c .before .before .before .before .before .before .before .before in
+    let k = W at-corners in
+    let at-loop-test = k .before .before .before in
+    omega (arith, at-loop-test)
 
 loop-less-4 : tie.Need-loop-less-4 Inv-loop μ-loop
-loop-less-4 c = let k = W (c .before .before .before .before .before .before .before .before) in omega (arith, k .before .before .before)
+loop-less-4 c =
+    let at-corners = c .before .before .before .before .before .before .before .before in
+    let k = W at-corners in
+    let at-loop-test = k .before .before .before in
+    omega (arith, at-loop-test)
 
 loop-again-4 : tie.Need-loop-again-4 Inv-loop μ-loop
 loop-again-4 c =
-    let k = W (c .before .before .before .before .before .before .before .before) in
-    let l = k .before .before .before .before .loop in
-    let f = sym (c .before .before .before .before .before .before .a .given .1) ∙ c .before .before .before .before .before .before .before .before .corners .ensures in (
-      omega (arith, k .before .before .before),
+    let at-inside = c .before .before .before in
+    let at-weigh = at-inside .before in
+    let at-corners = at-weigh .before .before .before .before in
+    let k = W at-corners in
+    let at-loop-test = k .before .before .before in
+    let start = at-loop-test .before .before .before .before .before .before in
+    let l = at-loop-test .before .loop in
+    let f = sym (at-weigh .before .before .a .given .1) ∙ at-corners .corners .ensures in (
+      omega (arith, at-loop-test),
       c .higher .ensures .0
-          ∙ rw (next (k .before .before .before .before .before .before .before .before .before .args .from) (l .k), c .before .height .ensures, c .before .before .before .before .weigh .ensures) (taken-inside _ _ _ _ _ _ (c .before .before .before .before .before .before .before .before .before .wide .ensures) _ (l .inv .1) f (rw (← c .before .before .before .before .weigh .ensures) (sym (c .before .before .before .inside .ensures) ∙ not-false _ (c .before .before .if2 .left)))),
-      poised-next _ _ _ _ (l .inv .2) (weighs _ _ _ _ f (c .before .before .before .before .weigh .ensures)) (c .higher .ensures .1),
+          ∙ rw (next (start .args .from) (l .k), c .before .height .ensures, at-weigh .weigh .ensures)
+          (taken-inside _ _ _ _ _ _ (at-corners .before .wide .ensures) _ (l .inv .1) f
+          (rw (← at-weigh .weigh .ensures) (sym (at-inside .inside .ensures) ∙ not-false _ (c .before .before .if2 .left)))),
+      weighed-next _ _ _ _ (l .inv .2) (weighs _ _ _ _ f (at-weigh .weigh .ensures)) (c .higher .ensures .1),
     )
 
 returns : tie.Need-returns Inv-loop μ-loop

@@ -50,7 +50,10 @@ face-up-requires : tie.Need-face-up-requires
 face-up-requires c κs = search needs
 
 returns-2 : tie.Need-returns-2
-returns-2 c = rw (c .face-up .ensures, c .before .flat .ensures) (own _ _ _ _ _ _ (sym (c .before .before .before .before .a .given .1) ∙ c .before .before .before .before .before .before .corners .ensures) (c .before .before .if1 .taken))
+returns-2 c =
+    let at-a = c .before .before .before .before in
+    rw (c .face-up .ensures, c .before .flat .ensures)
+    (own _ _ _ _ _ _ (sym (at-a .a .given .1) ∙ at-a .before .before .corners .ensures) (c .before .before .if1 .taken))
 
 weigh-requires : tie.Need-weigh-requires
 weigh-requires c κs = search needs
@@ -62,7 +65,11 @@ face-up-requires-2 : tie.Need-face-up-requires-2
 face-up-requires-2 c κs = search needs
 
 returns-3 : tie.Need-returns-3
-returns-3 c = rw (c .face-up2 .ensures, c .before .blend .ensures, c .before .before .weigh .ensures) (blended _ _ _ _ _ _ (sym (c .before .before .before .before .before .a .given .1) ∙ c .before .before .before .before .before .before .before .corners .ensures) (c .before .before .before .if1 .left))
+returns-3 c =
+    let at-if1 = c .before .before .before in
+    let at-corners = at-if1 .before .before .before .before in
+    rw (c .face-up2 .ensures, c .before .blend .ensures, c .before .before .weigh .ensures)
+    (blended _ _ _ _ _ _ (sym (at-if1 .before .before .a .given .1) ∙ at-corners .corners .ensures) (at-if1 .if1 .left))
 
 pub normal-of-spec : {M : Type 1} → statement M
 normal-of-spec =

@@ -40,7 +40,10 @@ mul-low : tie.Need-mul-low Inv-loop μ-loop
 mul-low c = search needs
 
 slice-write-low : tie.Need-slice-write-low Inv-loop μ-loop
-slice-write-low c = omega (arith, c .before .before .before .before .before .before .before .before .before .before .before .pre, c .before .before .before .before .before .before .loop .inv)
+slice-write-low c =
+    let at-loop = c .before .before .before .before .before .before in
+    let start = at-loop .before .before .before .before .before in
+    omega (arith, start .pre, at-loop .loop .inv)
 
 add-k : tie.Need-add-k Inv-loop μ-loop
 add-k c = omega (arith, c .before .before .before .before .before)
@@ -50,15 +53,23 @@ loop-less c = omega (arith, c .before .before .before .before .before)
 
 loop-again : tie.Need-loop-again Inv-loop μ-loop
 loop-again c =
-    let l = c .before .before .before .before .before .before .loop in
-    let s = c .before .before .before .before .before .before .before .before .before .before .before in
+    let at-ground-at2 = c .before .before .before in
+    let at-loop-test = at-ground-at2 .before .before in
+    let s = at-loop-test .before .before .before .before .before .before in
+    let l = at-loop-test .before .loop in
     let g = s .args in
-    let room : l .k < length (l .low) = omega (arith, s .pre, l .inv, c .before .before .before .before .before .loop-test) in (
-      omega (arith, c .before .before .before .before .before),
+    let room : l .k < length (l .low) = omega (arith, s .pre, l .inv, at-loop-test .loop-test) in (
+      omega (arith, at-loop-test),
       simp length-set (l .inv .1),
-      subst (λ (k : ℕ). AllLow (g .a .now) (g .b .now) (g .c .now) (g .x) (g .y) (set (l .low) (l .k) (c .least .result)) k) (sym (add-one (l .k)))
-          (low-step (λ j. insideOf (weightsOf (groundAt (g .a .now) j) (groundAt (g .b .now) j) (groundAt (g .c .now) j) (g .x) (g .y)) ≡ false) (l .low) (l .k) (c .least .result) room (l .inv .2)
-          (λ e. rw (← c .before .before .ground-at3 .ensures, ← c .before .before .before .ground-at2 .ensures, ← c .before .before .before .before .ground-at .ensures, ← c .before .weigh .ensures) (c .least .ensures e))),
+      subst (λ (k : ℕ). AllLow (g .a .now) (g .b .now) (g .c .now) (g .x) (g .y) (set (l .low) (l .k) (c .least .result)) k)
+          (sym (add-one (l .k)))
+          (low-step (λ j. insideOf (weightsOf (groundAt (g .a .now) j) (groundAt (g .b .now) j) (groundAt (g .c .now) j) (g .x) (g .y)) ≡ false)
+          (l .low) (l .k) (c .least .result) room (l .inv .2) (λ e. rw (
+            ← c .before .before .ground-at3 .ensures,
+            ← at-ground-at2 .ground-at2 .ensures,
+            ← at-ground-at2 .before .ground-at .ensures,
+            ← c .before .weigh .ensures,
+          ) (c .least .ensures e))),
     )
 
 same-length : tie.Need-same-length Inv-loop μ-loop

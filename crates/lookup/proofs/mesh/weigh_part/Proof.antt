@@ -7,8 +7,8 @@ use Rattle.lookup.proofs.mesh.weigh_part.Tie as tie
 gather-requires : tie.Need-gather-requires
 gather-requires c κs = search needs
 
-fours-requires : tie.Need-fours-requires
-fours-requires c κs = search needs
+next-fourth-requires : tie.Need-next-fourth-requires
+next-fourth-requires c κs = search needs
 
 weigh-all-requires : tie.Need-weigh-all-requires
 weigh-all-requires c κs = search needs
@@ -29,14 +29,15 @@ returns : tie.Need-returns
 returns c =
     let f = c .before .before .before .before in
     let g = f .before .before .before .before .before in
-    weighed _ _ _ _ _ _ _ _ _ _ _ _ _ (f .fours .ensures .0) (g .before .before .before .before .before .gather .ensures) (c .before .before .weigh-all .ensures)
+    let at-gather = g .before .before .before .before .before in
+    weighed _ _ _ _ _ _ _ _ _ _ _ _ _ (f .next-fourth .ensures .0) (at-gather .gather .ensures) (c .before .before .weigh-all .ensures)
 
 pub weigh-part-spec : {M : Type 1} → statement M
 weigh-part-spec =
     tie.close
     (tie.spec
     gather-requires
-    fours-requires
+    next-fourth-requires
     weigh-all-requires
     same-length
     same-length-2

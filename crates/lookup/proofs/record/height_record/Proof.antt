@@ -18,14 +18,17 @@ without-lane-requires : tie.Need-without-lane-requires
 without-lane-requires c κs = search needs
 
 answer-by-requires : tie.Need-answer-by-requires
-answer-by-requires c κs = λ a e. plain-words (M (c .before .before .before .before .before .before .before .before)) _ _ a (sym (c .without-lane .ensures ∙ ap plainSample (c .before .before .height-at .ensures)) ∙ e)
+answer-by-requires c κs =
+    let start = c .before .before .before .before .before .before .before .before in
+    λ a e. plain-words (M start) _ _ a (sym (c .without-lane .ensures ∙ ap plainSample (c .before .before .height-at .ensures)) ∙ e)
 
 same-length : tie.Need-same-length
 same-length c = search needs
 
 returns : tie.Need-returns
 returns c =
-    let e = c .before .before .before .without-lane .ensures ∙ ap plainSample (c .before .before .before .before .before .height-at .ensures) in
+    let at-without-lane = c .before .before .before in
+    let e = at-without-lane .without-lane .ensures ∙ ap plainSample (at-without-lane .before .before .height-at .ensures) in
     (rw (← e) (c .before .before .answer-by .ensures .0), rw (← e) (c .before .before .answer-by .ensures .1))
 
 pub height-record-spec : {M : Type 1} → statement M

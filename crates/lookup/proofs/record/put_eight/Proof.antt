@@ -1,117 +1,21 @@
 -- `lookup::record::put_eight` meets its contract. Assumes nothing.
-use mathlib.Core.Path.{refl}
-use native.Mathlib.Numerals.{towards-suc}
-use native.Mathlib.Omega.{arith}
-use lib.ListN.{length-set}
+use Rattle.shape.specs.Laws.Memory.{put-then}
 use borrow.Author.Needs.{needs}
 use Rattle.lookup.proofs.record.put_eight.Statement.{statement}
 use Rattle.lookup.proofs.record.put_eight.Tie as tie
 
-mul-out : tie.Need-mul-out
-mul-out c = search needs
+put-four-requires : tie.Need-put-four-requires
+put-four-requires c κs = search needs
 
-slice-write-out : tie.Need-slice-write-out
-slice-write-out c = search needs
-
-add-out : tie.Need-add-out
-add-out c = search needs
-
-mul-out-2 : tie.Need-mul-out-2
-mul-out-2 c = search needs
-
-slice-write-out-2 : tie.Need-slice-write-out-2
-slice-write-out-2 c = simp length-set (omega arith)
-
-add-out-2 : tie.Need-add-out-2
-add-out-2 c = search needs
-
-mul-out-3 : tie.Need-mul-out-3
-mul-out-3 c = search needs
-
-slice-write-out-3 : tie.Need-slice-write-out-3
-slice-write-out-3 c = simp length-set (omega arith)
-
-add-out-3 : tie.Need-add-out-3
-add-out-3 c = search needs
-
-mul-out-4 : tie.Need-mul-out-4
-mul-out-4 c = search needs
-
-slice-write-out-4 : tie.Need-slice-write-out-4
-slice-write-out-4 c = simp length-set (omega arith)
-
-add-out-4 : tie.Need-add-out-4
-add-out-4 c = search needs
-
-mul-out-5 : tie.Need-mul-out-5
-mul-out-5 c = search needs
-
-slice-write-out-5 : tie.Need-slice-write-out-5
-slice-write-out-5 c = simp length-set (omega arith)
-
-add-out-5 : tie.Need-add-out-5
-add-out-5 c = search needs
-
-mul-out-6 : tie.Need-mul-out-6
-mul-out-6 c = search needs
-
-slice-write-out-6 : tie.Need-slice-write-out-6
-slice-write-out-6 c = simp length-set (omega arith)
-
-add-out-6 : tie.Need-add-out-6
-add-out-6 c = search needs
-
-mul-out-7 : tie.Need-mul-out-7
-mul-out-7 c = search needs
-
-slice-write-out-7 : tie.Need-slice-write-out-7
-slice-write-out-7 c = simp length-set (omega arith)
-
-add-out-7 : tie.Need-add-out-7
-add-out-7 c = search needs
-
-mul-out-8 : tie.Need-mul-out-8
-mul-out-8 c = search needs
-
-slice-write-out-8 : tie.Need-slice-write-out-8
-slice-write-out-8 c = simp length-set (omega arith)
-
-add-result : tie.Need-add-result
-add-result c = search needs
+put-four-requires-2 : tie.Need-put-four-requires-2
+put-four-requires-2 c κs = search needs
 
 same-length : tie.Need-same-length
 same-length c = search needs
 
 returns : tie.Need-returns
-returns c = record { memory = simp towards-suc; ends = refl }
+returns c = put-then (c .before .before .before .before .before .before .put-four .ensures) (c .before .before .put-four2 .ensures)
 
 pub put-eight-spec : {M : Type 1} → statement M
 put-eight-spec =
-    tie.close
-    (tie.spec
-    mul-out
-    slice-write-out
-    add-out
-    mul-out-2
-    slice-write-out-2
-    add-out-2
-    mul-out-3
-    slice-write-out-3
-    add-out-3
-    mul-out-4
-    slice-write-out-4
-    add-out-4
-    mul-out-5
-    slice-write-out-5
-    add-out-5
-    mul-out-6
-    slice-write-out-6
-    add-out-6
-    mul-out-7
-    slice-write-out-7
-    add-out-7
-    mul-out-8
-    slice-write-out-8
-    add-result
-    same-length
-    returns)
+    tie.close (tie.spec put-four-requires put-four-requires-2 same-length returns)

@@ -81,12 +81,22 @@ same-length c = search needs
 returns : tie.Need-returns
 unfolding recordOf readSampled
 returns c =
-    let w = c .before .before .before .before .before .before in
-    let s = w .before .before .before .before .before .before .before in
-    let k = found-words (s .s .given .1) (s .before .before .before .pre .1) in
+    let at-word2 = c .before .before .before in
+    let w = at-word2 .before .before .before in
+    let at-bits322 = w .before .before .before in
+    let s = at-bits322 .before .before .before .before in
+    let start = s .before .before .before in
+    let k = found-words (s .s .given .1) (start .pre .1) in
     let t = w .word .ensures ∙ word-is _ (k .0) in
-    let l = c .before .before .before .word2 .ensures ∙ ap wordFor (c .before .before .before .before .lane-id .ensures) ∙ word-is _ (k .1) in
-    rw (s .s .given .1, ← w .before .before .before .before .bits32 .ensures, ← w .before .before .before .bits322 .ensures, ← w .before .before .bits323 .ensures, ← w .before .bits324 .ensures, ← c .before .before .before .before .before .lane-there .ensures) (rw (t, l) at (c .before .before .put-eight .ensures))
+    let l = at-word2 .word2 .ensures ∙ ap wordFor (at-word2 .before .lane-id .ensures) ∙ word-is _ (k .1) in
+    rw (
+      s .s .given .1,
+      ← at-bits322 .before .bits32 .ensures,
+      ← at-bits322 .bits322 .ensures,
+      ← w .before .before .bits323 .ensures,
+      ← w .before .bits324 .ensures,
+      ← at-word2 .before .before .lane-there .ensures,
+    ) (rw (t, l) at (c .before .before .put-eight .ensures))
 
 same-length-2 : tie.Need-same-length-2
 same-length-2 c = search needs
@@ -101,9 +111,12 @@ same-length-3 c = search needs
 returns-3 : tie.Need-returns-3
 unfolding recordOf readSampled
 returns-3 c =
-    let s = c .before .before .before .before .before .before .before .before in
-    let p = c .before .before .before .word3 .ensures ∙ ap wordFor (c .before .before .before .before .place .ensures) ∙ word-is _ (refused-words (s .s2 .given .1) (s .before .before .before .pre .1)) in
-    rw (s .s2 .given .1, ← c .before .before .before .before .before .number .ensures, ← p) (c .before .before .put-eight3 .ensures)
+    let at-word3 = c .before .before .before in
+    let s = at-word3 .before .before .before .before .before in
+    let start = s .before .before .before in
+    let p =
+    at-word3 .word3 .ensures ∙ ap wordFor (at-word3 .before .place .ensures) ∙ word-is _ (refused-words (s .s2 .given .1) (start .pre .1)) in
+    rw (s .s2 .given .1, ← at-word3 .before .before .number .ensures, ← p) (c .before .before .put-eight3 .ensures)
 
 pub put-record-spec : {M : Type 1} → statement M
 put-record-spec =

@@ -16,7 +16,10 @@ top-requires c κs = search needs
 
 answer-by-requires : tie.Need-answer-by-requires
 answer-by-requires c κs =
-    λ a e. taken-words (M (c .before .before .before .before .before .before .before .before)) _ _ _ (λ i. omega (arith, c .before .before .before .before .shared-slice-known4 .given i)) a (sym (c .before .top .ensures) ∙ e)
+    let at-shared-slice-known4 = c .before .before .before .before in
+    let start = at-shared-slice-known4 .before .before .before .before in
+    λ a e. taken-words (M start) _ _ _ (λ i. omega (arith, at-shared-slice-known4 .shared-slice-known4 .given i)) a
+    (sym (c .before .top .ensures) ∙ e)
 
 same-length : tie.Need-same-length
 same-length c = search needs

@@ -16,11 +16,13 @@ M s = meshLists (s .args .vertices .now) (s .args .normals .now) (s .args .indic
 abbrev L : tie.After-locate → tie.Start
 L c = c .before .before .before .before .before .before
 
-abbrev H : tie.After-highest-in → tie.After-locate
+abbrev H : tie.After-highest → tie.After-locate
 H c = c .before .before .before .before .before
 
 locate-requires : tie.Need-locate-requires
-locate-requires c κs = (c .before .before .before .before .before .pre .1 .sided, c .before .before .before .before .before .pre .1 .is)
+locate-requires c κs =
+    let start = c .before .before .before .before .before in
+    (start .pre .1 .sided, start .pre .1 .is)
 
 enum-known-r : tie.Need-enum-known-r
 enum-known-r c = search needs
@@ -34,11 +36,11 @@ enum-known-from c = search needs
 at-requires : tie.Need-at-requires
 at-requires c κs = search needs
 
-highest-in-requires : tie.Need-highest-in-requires
-highest-in-requires c κs = search needs
+highest-requires : tie.Need-highest-requires
+highest-requires c κs = search needs
 
 run-check-requires : tie.Need-run-check-requires
-run-check-requires c κs = λ w r. run-sound _ _ _ _ _ _ (c .before .at .ensures) r (c .highest-in .ensures .0 .flag .all w)
+run-check-requires c κs = λ w r. run-sound _ _ _ _ _ _ (c .before .at .ensures) r (c .highest .ensures .0 .flag .all w)
 
 enum-known-check : tie.Need-enum-known-check
 enum-known-check c = search needs
@@ -46,19 +48,23 @@ enum-known-check c = search needs
 returns : tie.Need-returns
 unfolding readSampled
 returns c =
-    let l = H (c .before .before .before .before) in
+    let at-run-check = c .before .before .before in
+    let at-from = at-run-check .before .before .before .before in
+    let l = H (at-run-check .before) in
     let s = L l in
-    refuses (M s) _ _ _ (s .pre .0) (run-is _ _ (l .locate .ensures _ (s .pre .1 .sound)) (c .before .before .before .before .before .before .before .from .given .1) .foreign _ _ (faulty (c .before .check .given .1) (c .before .before .before .run-check .ensures)))
+    refuses (M s) _ _ _ (s .pre .0) (run-is _ _ (l .locate .ensures _ (s .pre .1 .sound)) (at-from .from .given .1) .foreign _ _
+    (faulty (c .before .check .given .1) (at-run-check .run-check .ensures)))
 
 enum-told-2 : tie.Need-enum-told-2
 enum-told-2 c = search needs
 
-told-requires : tie.Need-told-requires
-told-requires c κs =
-    let s = L (H (c .before .before .before)) in
+answer-of-requires : tie.Need-answer-of-requires
+answer-of-requires c κs =
+    let at-highest = c .before .before .before in
+    let s = L (H at-highest) in
     let o = ordered (M s) _ (s .args .x) (s .args .y) (s .pre .0) in
-    let h = c .before .before .before .highest-in .ensures in
-    ((small (M s) _ (s .args .x) (s .args .y) (s .pre .0) _ (c .before .before .before .before .at .ensures) _ (h .0 .found), o .spans, o .ends), h .1)
+    let h = at-highest .highest .ensures in
+    ((small (M s) _ (s .args .x) (s .args .y) (s .pre .0) _ (at-highest .before .at .ensures) _ (h .0 .found), o .spans, o .ends), h .1)
 
 returns-2 : tie.Need-returns-2
 unfolding readSampled
@@ -70,11 +76,15 @@ returns-3 c = let s = L (c .before .before) in nothing (M s) _ _ _ (s .pre .0) (
 
 returns-4 : tie.Need-returns-4
 returns-4 c =
-    let l = H (c .before .before .before .before) in
+    let at-run-check = c .before .before .before in
+    let at-highest = at-run-check .before in
+    let at-from = at-highest .before .before .before in
+    let l = H at-highest in
     let s = L l in
-    c .told .ensures
-    ∙ gives (M s) _ _ _ (s .pre .0) (run-is _ _ (l .locate .ensures _ (s .pre .1 .sound)) (c .before .before .before .before .before .before .before .from .given .1) .sound (sound (c .before .enum-told2 .given .1) (c .before .before .before .run-check .ensures)))
-    (c .before .before .before .before .before .at .ensures) (c .before .before .before .before .highest-in .ensures .0 .found)
+    c .answer-of .ensures
+    ∙ gives (M s) _ _ _ (s .pre .0) (run-is _ _ (l .locate .ensures _ (s .pre .1 .sound)) (at-from .from .given .1) .sound
+    (sound (c .before .enum-told2 .given .1) (at-run-check .run-check .ensures))) (at-highest .before .at .ensures)
+    (at-highest .highest .ensures .0 .found)
 
 pub sample-in-spec : {M : Type 1} → statement M
 sample-in-spec =
@@ -85,12 +95,12 @@ sample-in-spec =
     enum-told
     enum-known-from
     at-requires
-    highest-in-requires
+    highest-requires
     run-check-requires
     enum-known-check
     returns
     enum-told-2
-    told-requires
+    answer-of-requires
     returns-2
     returns-3
     returns-4)

@@ -41,17 +41,28 @@ enum-known-h : tie.Need-enum-known-h
 enum-known-h c = search needs
 
 sample-in-requires : tie.Need-sample-in-requires
-sample-in-requires c κs = (sound (c .before .before .before .before .enum-told .given .1) (c .before .before .before .before .before .before .top-fault .ensures), open-is _ _ (c .before .before .before .«open» .ensures) (c .before .h .given .1))
+sample-in-requires c κs =
+    let at-open = c .before .before .before in
+    let at-top-fault = at-open .before .before .before in (
+      sound (at-open .before .enum-told .given .1) (at-top-fault .top-fault .ensures),
+      open-is _ _ (at-open .«open» .ensures) (c .before .h .given .1),
+    )
 
 returns-2 : tie.Need-returns-2
 unfolding readSampled
 returns-2 c =
-    refuses (M (T (c .before .before .before .before .before .before))) _ _ _ (sound (c .before .before .before .before .enum-told .given .1) (c .before .before .before .before .before .before .top-fault .ensures)) (foreign-is _ _ (c .before .before .before .«open» .ensures) (c .before .r .given .1) _ _)
+    let at-open = c .before .before .before in
+    let at-top-fault = at-open .before .before .before in
+    refuses (M (T at-top-fault)) _ _ _ (sound (at-open .before .enum-told .given .1) (at-top-fault .top-fault .ensures))
+    (foreign-is _ _ (at-open .«open» .ensures) (c .before .r .given .1) _ _)
 
 returns-3 : tie.Need-returns-3
 unfolding readSampled
 returns-3 c =
-    nothing (M (T (c .before .before .before .before .before))) _ _ _ (sound (c .before .before .before .enum-told .given .1) (c .before .before .before .before .before .top-fault .ensures)) (empty-is _ _ (c .before .before .«open» .ensures) (c .enum-told2 .given .1) .1 _ _)
+    let at-enum-told = c .before .before .before in
+    let at-top-fault = at-enum-told .before .before in
+    nothing (M (T at-top-fault)) _ _ _ (sound (at-enum-told .enum-told .given .1) (at-top-fault .top-fault .ensures))
+    (empty-is _ _ (c .before .before .«open» .ensures) (c .enum-told2 .given .1) .1 _ _)
 
 returns-4 : tie.Need-returns-4
 returns-4 c = c .sample-in .ensures

@@ -27,7 +27,15 @@ add-result c = search needs
 
 returns : tie.Need-returns
 unfolding codeFor
-returns c = rw (c .wide2 .ensures, c .before .word .ensures, c .before .before .place .ensures, c .before .before .before .wide .ensures, c .before .before .before .before .number .ensures)
+returns c =
+    let at-wide = c .before .before .before in
+    rw (
+      c .wide2 .ensures,
+      c .before .word .ensures,
+      c .before .before .place .ensures,
+      at-wide .wide .ensures,
+      at-wide .before .number .ensures,
+    )
 
 pub code-spec : {M : Type 1} → statement M
 code-spec =

@@ -29,13 +29,9 @@ code-requires c κs = search needs
 returns : tie.Need-returns
 unfolding readMesh codeOf leftIn
 returns c =
-    let e = c .before .before .before .before .before .a .given .1 in (
-      rw e (c .count .ensures),
-      (
-        rw e (c .before .before .before .word .ensures),
-        (rw e (c .before .before .word2 .ensures), rw e (c .before .word3 .ensures)),
-      ),
-    )
+    let at-word = c .before .before .before in
+    let e = at-word .before .before .a .given .1 in
+    (rw e (c .count .ensures), (rw e (at-word .word .ensures), (rw e (c .before .before .word2 .ensures), rw e (c .before .word3 .ensures))))
 
 returns-2 : tie.Need-returns-2
 unfolding readMesh codeOf leftIn

@@ -29,12 +29,10 @@ code-requires c κs = search needs
 returns : tie.Need-returns
 unfolding readOutline codeOf leftIn
 returns c =
-    let e = c .before .before .before .before .before .a .given .1 in (
+    let at-word = c .before .before .before in
+    let e = at-word .before .before .a .given .1 in (
       rw e (c .count .ensures),
-      (
-        rw e (c .before .before .before .word .ensures),
-        (rw e, (rw e (c .before .before .bit .ensures), rw e (c .before .bit2 .ensures))),
-      ),
+      (rw e (at-word .word .ensures), (rw e, (rw e (c .before .before .bit .ensures), rw e (c .before .bit2 .ensures)))),
     )
 
 returns-2 : tie.Need-returns-2

@@ -1,5 +1,4 @@
 -- `rounding::compare::hypot_at_most_milli` meets its contract. Assumes nothing.
-use mathlib.Core.Path.{_≡_}
 use borrow.Author.Needs.{needs}
 use lib.Ieee.{ofBits, le}
 use Rattle.rounding.specs.Hypot.{squaresOf}

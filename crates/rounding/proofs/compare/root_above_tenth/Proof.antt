@@ -9,7 +9,10 @@ use Rattle.rounding.proofs.compare.root_above_tenth.Statement.{statemen
 use Rattle.rounding.proofs.compare.root_above_tenth.Tie as tie
 
 returns : tie.Need-returns
-returns c = sym (edge binary32 (λ v. lt tenth v) (above (λ v. v) as-it-is tenth) (ofBits binary32 0x3c23_d70c) (ofBits binary32 0x3c23_d70b) passes-tenth (c .args .x) (subst T (sym (c .good .0 .1)) tt))
+returns c =
+    sym
+    (edge binary32 (λ v. lt tenth v) (above (λ v. v) as-it-is tenth) (ofBits binary32 0x3c23_d70c) (ofBits binary32 0x3c23_d70b) passes-tenth
+    (c .args .x) (subst T (sym (c .good .0 .1)) tt))
 
 pub root-above-tenth-spec : {M : Type 1} → statement M
 root-above-tenth-spec = tie.close (tie.spec returns)

@@ -1,6 +1,6 @@
 -- `rounding::root::near_one` meets its contract. Assumes nothing.
 use borrow.Author.Needs.{needs}
-use Prim.Native.Nat.{_+_, _*_, _/_, _≤_}
+use Prim.Native.Nat.{_+_, _/_, _≤_}
 use lib.Dec.{lit≤}
 use native.Mathlib.Omega.{arith}
 use lib.Ieee.{binary32}

@@ -1,6 +1,6 @@
 -- `rounding::root::root` meets its contract: what is returned at once has passed the test, and the rest is `root_from`'s. Assumes nothing.
 use borrow.Author.Needs.{needs}
-use Prim.Native.Nat.{ℕ, _+_, _*_, _/_, _%_, _^_, _≤_, _<_}
+use Prim.Native.Nat.{ℕ, _+_, _*_, _/_, _%_, _^_, _≤_}
 use native.Mathlib.Nat.{div-le-self}
 use native.Mathlib.Omega.{arith}
 use Rattle.rounding.proofs.Halves.{square-fits, tested}

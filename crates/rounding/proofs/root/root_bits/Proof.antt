@@ -1,13 +1,13 @@
 -- `rounding::root::root_bits` meets its contract: the fields of the pattern are those of `proofs/Fields.antt`. Assumes nothing.
-use mathlib.Core.Path.{_≡_, sym, ap, _∙_, subst}
-use Prim.Native.Nat.{ℕ, suc, _+_, _-_, _*_, _/_, _%_, _^_, _≤_, _<_}
+use mathlib.Core.Path.{_≡_, ap}
+use Prim.Native.Nat.{ℕ, _+_, _-_, _*_, _/_, _%_, _^_, _≤_, _<_}
 use native.Mathlib.Omega.{arith}
 use native.Mathlib.Nat.{mod-lt, div-add-mod', div-lt-iff-lt-mul}
 use borrow.Author.Needs.{needs}
 use lib.Bits.{bitAnd}
 use lib.Pow.{pow-pos, pow-mono}
-use lib.Ieee.{Format, prec, emax, low, hid, ones, ofBits}
-use Rattle.rounding.specs.Root.{rootOf, sqrtOf}
+use lib.Ieee.{low, hid, ones}
+use Rattle.rounding.specs.Root.{rootOf}
 use Rattle.rounding.specs.Steps.{Rooted}
 use Rattle.rounding.proofs.Pattern.{twice}
 use Rattle.rounding.proofs.RootScaled.{Bounds, bounds}

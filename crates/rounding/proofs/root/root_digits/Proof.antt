@@ -1,6 +1,4 @@
 -- `rounding::root::root_digits` meets its contract, at each of the two widths. Assumes nothing.
-use mathlib.Core.Path.{_≡_}
-use Prim.Native.Nat.{_*_, _^_, _≤_, _<_}
 use native.Mathlib.Omega.{arith}
 use Rattle.rounding.proofs.Halves.{narrow-root, wide-root}
 use Rattle.rounding.proofs.root.root_digits.Statement.{statement}

@@ -1,11 +1,10 @@
 -- `rounding::root::root_near_one` meets its contract: its test of the bits is the definition's order. Assumes nothing.
 use borrow.Author.Needs.{needs}
 use mathlib.Core.Path.{_≡_, sym, ap, _∙_, subst}
-use mathlib.Core.Bool.{Bool, true, false, cond}
-use Prim.Native.Nat.{_<_}
+use mathlib.Core.Bool.{Bool, false, cond}
 use native.Mathlib.Omega.{arith}
 use lib.Dec.{T}
-use lib.Ieee.{Float, binary32, fits, toBits}
+use lib.Ieee.{Float, binary32, fits}
 use lib.Ieee.Bits.{ofBits-toBits, toBits-lt}
 use Rattle.rounding.specs.Root.{sqrtOf, nearOne}
 use Rattle.rounding.proofs.Fields.{no-nan}

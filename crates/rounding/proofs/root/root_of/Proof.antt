@@ -1,12 +1,12 @@
 -- `rounding::root::root_of` meets its contract: what it works out is `proofs/RootScaled.antt`, and the law of it `proofs/RootLaw.antt`. Assumes nothing.
-use Prim.Native.Nat.{ℕ, _+_, _-_, _*_, _/_, _%_, _^_, _≤_, _<_}
+use Prim.Native.Nat.{_-_, _*_, _^_, _≤_}
 use native.Mathlib.Omega.{arith}
-use native.Mathlib.Nat.{mul-le-mul, le-trans, lt-of-lt-of-le}
+use native.Mathlib.Nat.{mul-le-mul}
 use borrow.Author.Needs.{needs}
-use lib.Count.{leadingZeros, leading-le}
+use lib.Count.{leading-le}
 use lib.Pow.{pow-mono}
-use lib.Ieee.{hid, ones, prec, emax}
-use Rattle.rounding.proofs.RootScaled.{Bounds, bounds, Length, length, shift-is, enough, radicand, answer, root-small}
+use lib.Ieee.{hid, ones, prec}
+use Rattle.rounding.proofs.RootScaled.{Bounds, bounds, enough, radicand, answer, root-small}
 use Rattle.rounding.proofs.root.root_of.Statement.{statement}
 use Rattle.rounding.proofs.root.root_of.Tie as tie
 
@@ -52,12 +52,18 @@ shl-result c = omega (arith, known (c .before) .short)
 add-result : tie.Need-add-result
 add-result c =
     let a : 2 ^ c .before .args .p ≤ 2 ^ 53 = pow-mono (known (c .before) .short) in
-    omega (arith, root-small (c .before .args .p) (c .before .args .e) (c .before .args .m) (c .before .args .k) (known (c .before)) (c .before .pre .1 .0) (c .before .pre .1 .1 .0) (c .before .pre .1 .1 .1) (c .root-digits .result) (c .root-digits .ensures))
+    omega (
+      arith,
+      root-small (c .before .args .p) (c .before .args .e) (c .before .args .m) (c .before .args .k) (known (c .before))
+          (c .before .pre .1 .0) (c .before .pre .1 .1 .0) (c .before .pre .1 .1 .1) (c .root-digits .result) (c .root-digits .ensures),
+    )
 
 add-result-2 : tie.Need-add-result-2
 add-result-2 c =
     let s = c .before .pre .0 in
-    let r = answer (c .before .args .p) (c .before .args .e) (c .before .args .m) (c .before .args .k) (known (c .before)) (c .before .pre .1 .0) (c .before .pre .1 .1 .0) (c .before .pre .1 .1 .1) (c .root-digits .result) (c .root-digits .ensures) (s .format) (s .digits) (s .largest) in
+    let r = answer (c .before .args .p) (c .before .args .e) (c .before .args .m) (c .before .args .k) (known (c .before))
+    (c .before .pre .1 .0) (c .before .pre .1 .1 .0) (c .before .pre .1 .1 .1) (c .root-digits .result) (c .root-digits .ensures) (s .format)
+    (s .digits) (s .largest) in
     let k = known (c .before) in
     let a : ones (s .format) ≤ 2047 = omega (arith, k .far, s .largest) in
     let w : prec (s .format) - 1 ≤ 52 = omega (arith, k .short, s .digits) in
@@ -66,7 +72,9 @@ add-result-2 c =
     omega (arith, r .finite)
 
 returns : tie.Need-returns
-returns c = answer (c .before .args .p) (c .before .args .e) (c .before .args .m) (c .before .args .k) (known (c .before)) (c .before .pre .1 .0) (c .before .pre .1 .1 .0) (c .before .pre .1 .1 .1) (c .root-digits .result) (c .root-digits .ensures)
+returns c =
+    answer (c .before .args .p) (c .before .args .e) (c .before .args .m) (c .before .args .k) (known (c .before)) (c .before .pre .1 .0)
+    (c .before .pre .1 .1 .0) (c .before .pre .1 .1 .1) (c .root-digits .result) (c .root-digits .ensures)
 
 pub root-of-spec : {M : Type 1} → statement M
 root-of-spec =

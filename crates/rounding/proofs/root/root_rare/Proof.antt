@@ -1,16 +1,13 @@
 -- `rounding::root::root_rare` meets its contract: each case is a law of `proofs/Fields.antt`, at `binary32`. Assumes nothing.
-use borrow.Author.Needs.{needs}
-use mathlib.Core.Path.{_≡_, refl, sym, ap, _∙_, subst}
+use mathlib.Core.Path.{refl, sym, ap, _∙_, subst}
 use mathlib.Core.Logic.{_≢_}
-use mathlib.Core.Bool.{not}
-use Prim.Native.Nat.{ℕ, _<_, _≤_, _-_, _*_, _/_, _%_, _^_}
+use Prim.Native.Nat.{ℕ, _<_, _-_, _*_, _/_, _^_}
 use native.Mathlib.Omega.{arith}
 use lib.Dec.{T}
 use lib.Bits.{bitAnd}
-use lib.Ieee.{Float, binary32, fits, isNan, toBits, ofBits, div, nan, ones, hid, top}
+use lib.Ieee.{binary32, fits, toBits, ofBits, div, ones, hid}
 use lib.Ieee.Bits.{ofBits-toBits}
 use Rattle.rounding.specs.Root.{sqrtOf}
-use Rattle.rounding.specs.Steps.{Rooted}
 use Rattle.rounding.proofs.Fields.{no-nan, zero-root, inf-root, neg-root, result-no-nan}
 use Rattle.rounding.proofs.Sign.{sized, sized-lt}
 use Rattle.rounding.proofs.Words.{masked, unsigned}

@@ -1,16 +1,10 @@
 -- `rounding::root::sqrt32` meets its contract. Assumes nothing.
 use borrow.Author.Needs.{needs}
-use mathlib.Core.Path.{_≡_, refl, sym, ap, _∙_, subst}
-use mathlib.Core.Logic.{_≢_}
-use mathlib.Core.Bool.{not}
-use Prim.Native.Nat.{ℕ, _<_, _≤_, _-_, _*_, _%_, _^_}
-use native.Mathlib.Omega.{arith}
+use mathlib.Core.Path.{sym, ap, _∙_, subst}
 use lib.Dec.{T}
-use lib.Bits.{bitAnd, and-mask}
-use lib.Ieee.{Float, binary32, fits, isNan, toBits, ofBits, div, nan, ones, hid, top}
+use lib.Ieee.{binary32, fits}
 use lib.Ieee.Bits.{ofBits-toBits}
 use Rattle.rounding.specs.Root.{sqrtOf}
-use Rattle.rounding.specs.Steps.{Rooted}
 use Rattle.rounding.proofs.Fields.{no-nan, nan-root, result-no-nan}
 use Rattle.rounding.proofs.root.sqrt32.Statement.{statement}
 use Rattle.rounding.proofs.root.sqrt32.Tie as tie

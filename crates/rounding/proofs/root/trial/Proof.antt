@@ -1,6 +1,6 @@
 -- `rounding::root::trial` meets its contract: its numbers fit. Assumes nothing.
 use borrow.Author.Needs.{needs}
-use Prim.Native.Nat.{ℕ, _+_, _-_, _*_, _/_, _%_, _^_, _≤_, _<_}
+use Prim.Native.Nat.{ℕ, _+_, _-_, _*_, _/_, _%_, _≤_, _<_}
 use native.Mathlib.Omega.{arith}
 use lib.Bits.{bitAnd, and-mask}
 use Rattle.rounding.proofs.RootTrial.{arc-fits, slope-fits}

@@ -1,8 +1,6 @@
 -- `rounding::whole::way_by` meets its contract. Assumes nothing.
-use mathlib.Core.Path.{_≡_, refl, sym, ap}
+use mathlib.Core.Path.{refl}
 use mathlib.Core.Logic.{_≢_}
-use mathlib.Core.Bool.{Bool, cond}
-use Prim.Native.Nat.{ℕ}
 use native.Mathlib.Omega.{arith}
 use borrow.Author.Tests.{le-leb, lt-leb}
 use Rattle.rounding.proofs.whole.way_by.Statement.{statement}

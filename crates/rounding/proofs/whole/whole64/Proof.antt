@@ -1,16 +1,12 @@
 -- `rounding::whole::whole64` meets its contract: each case is a law of `proofs/Sign.antt`, at `binary64`. Assumes nothing.
-use mathlib.Core.Path.{_≡_, refl, sym, ap, _∙_, subst}
-use mathlib.Core.Logic.{_≢_}
-use mathlib.Core.Bool.{Bool, true, false, not}
-use Prim.Native.Nat.{ℕ, _<_, _≤_, _-_, _*_, _%_, _^_}
-use native.Mathlib.Nat.{zero-add}
+use mathlib.Core.Path.{_≡_, refl, sym, _∙_, subst}
+use mathlib.Core.Bool.{Bool, false}
+use Prim.Native.Nat.{_<_, _-_, _*_, _^_}
 use native.Mathlib.Omega.{arith}
 use lib.Dec.{T}
 use borrow.Author.Needs.{needs}
 use lib.Bits.{bitAnd, and-mask, and-le-r}
-use lib.Ieee.{Float, binary64, fits, isNan, toBits, ofBits, ones, hid, top, nanBits}
-use Rattle.rounding.specs.Steps.{Wholes, wayOf}
-use Rattle.rounding.specs.Whole.{ways}
+use lib.Ieee.{Float, binary64, fits, toBits, ones, hid}
 use Rattle.rounding.proofs.Fields.{no-nan}
 use Rattle.rounding.proofs.Sign.{nan-whole, inf-whole, sized, sized-lt, signed-by, no-nan-signed}
 use Rattle.rounding.proofs.whole.whole64.Statement.{statement}
@@ -56,7 +52,8 @@ returns-3 : tie.Need-returns-3
 returns-3 c =
     let s = c .before .before .before .before in
     let way = c .before .way-by in
-    signed-by binary64 (s .args .x) (held s) (s .args .plus) (s .args .minus) (way .result) (c .whole-bits .result) (within (c .before .before)) (way .ensures) (λ (g : Bool). rw (masked (s .args .x)) at (c .whole-bits .ensures binary64 g refl refl))
+    signed-by binary64 (s .args .x) (held s) (s .args .plus) (s .args .minus) (way .result) (c .whole-bits .result) (within (c .before .before))
+    (way .ensures) (λ (g : Bool). rw (masked (s .args .x)) at (c .whole-bits .ensures binary64 g refl refl))
 
 pub whole64-spec : {M : Type 1} → statement M
 whole64-spec = tie.close (tie.spec returns float-to-bits-b returns-2 way-by-requires whole-bits-requires add-result float-from-bits-result returns-3)

@@ -1,15 +1,14 @@
 -- `rounding::whole::whole_bits` meets its contract: its four ways out are laws of `proofs/Cut.antt`. Assumes nothing.
-use mathlib.Core.Path.{_≡_, refl, sym, ap, ap₂, _∙_, subst}
-use mathlib.Core.Bool.{Bool, true, false}
-use Prim.Native.Nat.{ℕ, suc, _+_, _-_, _*_, _/_, _%_, _^_, _≤_, _<_}
+use mathlib.Core.Path.{_≡_, refl, sym, ap, _∙_, subst}
+use Prim.Native.Nat.{ℕ, _+_, _-_, _*_, _/_, _%_, _^_, _≤_, _<_}
 use native.Mathlib.Omega.{arith}
-use native.Mathlib.Nat.{mul-le-mul, mul-lt-mul-of-pos-right, le-trans, lt-of-lt-of-le, one-mul, mod-le}
+use native.Mathlib.Nat.{mul-le-mul, one-mul}
 use borrow.Author.Tests.{lt-leb, le-leb}
 use lib.Dec.{lit<}
 use lib.Bits.{bitAnd, and-mask, and-le-l}
 use lib.Pow.{pow-pos, pow-mono, shl-exact}
-use lib.Ieee.{Format, prec, emax, low, hid, ones}
-use Rattle.rounding.specs.Steps.{Wholes, limitOf, stepOf, wayOf}
+use lib.Ieee.{Format, prec, emax, hid, ones}
+use Rattle.rounding.specs.Steps.{Wholes, limitOf, addendOf, wayOf}
 use Rattle.rounding.proofs.RootScaled.{Bounds, bounds}
 use Rattle.rounding.proofs.Fields.{lead-is}
 use Rattle.rounding.proofs.Cut.{unchanged, cut, stays, rises, moves-at, step-lt}
@@ -35,7 +34,9 @@ room p e x k h =
 abbrev below : ℕ → ℕ → ℕ → ℕ
 below p e b = e + p - 1 - b / 2 ^ (p - 1)
 
-unit : (c : tie.Else2) → (1 * 2 ^ below (c .before .before .args .p) (c .before .before .args .e) (c .before .before .args .b)) % 2 ^ 64 ≡ 2 ^ below (c .before .before .args .p) (c .before .before .args .e) (c .before .before .args .b)
+unit : (c : tie.Else2) →
+    let start = c .before .before in
+    (1 * 2 ^ below (start .args .p) (start .args .e) (start .args .b)) % 2 ^ 64 ≡ 2 ^ below (start .args .p) (start .args .e) (start .args .b)
 unit c =
     let s = c .before .before in
     let i = below (s .args .p) (s .args .e) (s .args .b) in
@@ -47,11 +48,16 @@ unit-ge c =
     let h : 1 ≤ below (s .args .p) (s .args .e) (s .args .b) = omega (arith, c .before .if1 .left) in
     pow-mono h
 
-step-is : (c : tie.After-step) → c .step .result ≡ stepOf (wayOf (c .before .before .before .args .way)) (2 ^ below (c .before .before .before .args .p) (c .before .before .before .args .e) (c .before .before .before .args .b))
-step-is c = c .step .ensures ∙ ap (λ (x : ℕ). stepOf (wayOf (c .before .before .before .args .way)) x) (unit (c .before))
+step-is : (c : tie.After-step) →
+    let start = c .before .before .before in
+    c .step .result ≡ addendOf (wayOf (start .args .way)) (2 ^ below (start .args .p) (start .args .e) (start .args .b))
+step-is c = c .step .ensures ∙ ap (λ (x : ℕ). addendOf (wayOf (c .before .before .before .args .way)) x) (unit (c .before))
 
 -- the bits from which on a number below one goes to one
-bound : (f : Format) (c : tie.After-limit) → prec f ≡ c .before .before .before .args .p → emax f ≡ c .before .before .before .args .e → c .limit .result ≡ limitOf (wayOf (c .before .before .before .args .way)) ((emax f - 1) * hid f) (emax f * hid f)
+bound : (f : Format) (c : tie.After-limit) →
+    let start = c .before .before .before in
+    prec f ≡ start .args .p → emax f ≡ start .args .e →
+    c .limit .result ≡ limitOf (wayOf (start .args .way)) ((emax f - 1) * hid f) (emax f * hid f)
 bound f c u w =
     let t = c .before .before .before in
     c .limit .ensures ∙ ap (λ (x : ℕ). limitOf (wayOf (t .args .way)) ((t .args .e - 1) * x) (t .args .e * x)) (lead t) ∙ rw (u, w) refl
@@ -150,7 +156,9 @@ add-t c =
     omega (arith, t .pre .1)
 
 sub-result : tie.Need-sub-result
-sub-result c = rw (unit (c .before)) (pow-pos (below (c .before .before .before .args .p) (c .before .before .before .args .e) (c .before .before .before .args .b)))
+sub-result c =
+    let start = c .before .before .before in
+    rw (unit (c .before)) (pow-pos (below (start .args .p) (start .args .e) (start .args .b)))
 
 sub-result-2 : tie.Need-sub-result-2
 sub-result-2 c = and-le-l _ _
@@ -166,8 +174,9 @@ returns-4 c = λ f s u w.
     let g : emax f ≤ b / hid f = rw (u, w) (c .before .if2 .left) in
     let h : b / hid f < emax f + prec f - 1 = rw (u, w) (c .before .before .if1 .left) in
     let l : b < ones f * hid f = rw (u, w) (t .pre .1) in
-    let r : b + c .step .result - bitAnd (b + c .step .result) ((1 * 2 ^ i) % 2 ^ 64 - 1) ≡ b + stepOf y (2 ^ j) - (b + stepOf y (2 ^ j)) % 2 ^ j =
-    masked b (c .step .result) i ((1 * 2 ^ i) % 2 ^ 64) (unit (c .before)) ∙ ap (λ (x : ℕ). b + x - (b + x) % 2 ^ i) (step-is c) ∙ ap (λ (x : ℕ). b + stepOf y (2 ^ x) - (b + stepOf y (2 ^ x)) % 2 ^ x) ji in
+    let r : b + c .step .result - bitAnd (b + c .step .result) ((1 * 2 ^ i) % 2 ^ 64 - 1) ≡ b + addendOf y (2 ^ j) - (b + addendOf y (2 ^ j)) % 2 ^ j =
+    masked b (c .step .result) i ((1 * 2 ^ i) % 2 ^ 64) (unit (c .before)) ∙ ap (λ (x : ℕ). b + x - (b + x) % 2 ^ i) (step-is c)
+    ∙ ap (λ (x : ℕ). b + addendOf y (2 ^ x) - (b + addendOf y (2 ^ x)) % 2 ^ x) ji in
     subst (λ (x : ℕ). Wholes f s y b x) (sym r) (cut f s y b l g h)
 
 pub whole-bits-spec : {M : Type 1} → statement M

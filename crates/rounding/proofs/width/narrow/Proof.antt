@@ -1,12 +1,11 @@
 -- `rounding::width::narrow` meets its contract: each case is a law of `proofs/Narrowing.antt`. Assumes nothing.
 use mathlib.Core.Path.{_≡_, refl, sym, ap, _∙_, subst}
-use mathlib.Core.Bool.{Bool, true, false, not, cond}
+use mathlib.Core.Bool.{Bool, false, not, cond}
 use Prim.Native.Nat.{ℕ, _<_, _≤_, _+_, _-_, _*_, _/_, _%_, _^_}
 use native.Mathlib.Omega.{arith}
 use lib.Dec.{T, leb}
 use lib.Bits.{bitAnd, and-mask}
 use lib.Ieee.{Float, binary32, binary64, fits, toBits, ofBits, ones, hid, top, nanBits, div}
-use Rattle.rounding.specs.Steps.{Narrows}
 use Rattle.rounding.proofs.Fields.{no-nan}
 use Rattle.rounding.proofs.Words.{sign-thin, sign-le, inf-signed}
 use Rattle.rounding.proofs.Sign.{sized, sized-lt}

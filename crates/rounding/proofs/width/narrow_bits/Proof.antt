@@ -1,14 +1,14 @@
 -- `rounding::width::narrow_bits` meets its contract: the law of each way out is `proofs/Pack.antt`'s. Assumes nothing.
-use mathlib.Core.Path.{_≡_, refl, sym, ap, ap₂, _∙_, subst}
+use mathlib.Core.Path.{_≡_, sym, ap, ap₂, _∙_}
 use mathlib.Core.Bool.{Bool, cond}
-use Prim.Native.Nat.{ℕ, suc, _+_, _-_, _*_, _/_, _%_, _^_, _≤_, _<_, min}
-use native.Mathlib.Nat.{le-trans, lt-of-lt-of-le, min-eq-left, min-eq-right, div-lt-iff-lt-mul, mul-le-mul-left, zero-add}
+use Prim.Native.Nat.{ℕ, _+_, _-_, _*_, _/_, _%_, _^_, _≤_, _<_, min}
+use native.Mathlib.Nat.{le-trans, div-lt-iff-lt-mul}
 use native.Mathlib.Omega.{arith}
 use lib.Bits.{bitAnd, and-mask}
 use lib.Pow.{pow-pos, pow-mono, shl-exact}
-use lib.Ieee.{binary32, binary64, low, prec, hid, top, ones, toBits, round}
+use lib.Ieee.{binary32, binary64, low, hid, top, ones, toBits, round}
 use lib.Ieee.Nearest.{closest}
-use Rattle.rounding.specs.Steps.{Narrows, sizeOf}
+use Rattle.rounding.specs.Steps.{sizeOf}
 use Rattle.rounding.proofs.Pack.{packs-high, packs-low, closest-le, closest-none}
 use borrow.Author.Needs.{needs}
 use Rattle.rounding.proofs.width.narrow_bits.Statement.{statement}
@@ -31,7 +31,9 @@ kept-le q s h l =
     let a : 2 ^ 29 ≤ 2 ^ s = pow-mono h in
     le-trans (closest-le q (2 ^ s)) (div-lt-iff-lt-mul (pow-pos s) .1 (omega arith))
 
-high : (s : Bool) (b : ℕ) → 896 ≤ shift b → toBits binary32 (round binary32 s (sizeOf 53 b) (2 ^ low binary64)) ≡ cond s (top binary32) 0 + min ((shift b - 896) * 2 ^ 23 + closest (digits b) (2 ^ 29)) (ones binary32 * hid binary32)
+high : (s : Bool) (b : ℕ) → 896 ≤ shift b →
+    toBits binary32 (round binary32 s (sizeOf 53 b) (2 ^ low binary64)) ≡ cond s (top binary32) 0 + min
+    ((shift b - 896) * 2 ^ 23 + closest (digits b) (2 ^ 29)) (ones binary32 * hid binary32)
 high s b h =
     let e : shift b + 29 - 925 ≡ shift b - 896 = omega arith in
     packs-high binary32 s (digits b) (shift b) 925 29 (short b) (lead b h) (omega arith)

@@ -1,7 +1,6 @@
 -- `rounding::width::widen` meets its contract: each case is a law of `proofs/Widening.antt`. Assumes nothing.
-use borrow.Author.Needs.{needs}
 use mathlib.Core.Path.{_≡_, refl, sym, ap, _∙_, subst}
-use mathlib.Core.Bool.{Bool, true, false, not, cond}
+use mathlib.Core.Bool.{Bool, not, cond}
 use Prim.Native.Nat.{ℕ, _+_, _*_, _/_, _%_, _^_, _≤_, _<_}
 use native.Mathlib.Omega.{arith}
 use lib.Dec.{T, leb}

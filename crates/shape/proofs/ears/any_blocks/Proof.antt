@@ -1,7 +1,7 @@
 -- `shape::ears::any_blocks` meets its contract: no point before m blocks. Assumes nothing.
-use mathlib.Core.Path.{_≡_, refl, sym, ap, _∙_}
+use mathlib.Core.Path.{_≡_, refl, sym}
 use mathlib.Core.Bool.{false}
-use Prim.Native.Nat.{_+_, _-_, _<_, _≤_}
+use Prim.Native.Nat.{_-_, _≤_}
 use native.Mathlib.Omega.{arith}
 use denote.Ref.{now}
 use lib.ListN.{length}
@@ -32,10 +32,19 @@ wide-requires : tie.Need-wide-requires Inv-loop μ-loop
 wide-requires c κs = search needs
 
 blocks-it-requires : tie.Need-blocks-it-requires Inv-loop μ-loop
-blocks-it-requires c κs = let w = c .before .before .before .before .before .before .pre .1 (c .before .before .before .loop .m) (omega arith) in omega (arith, w, c .wide .ensures, c .before .before .before .before .before .before .pre .0)
+blocks-it-requires c κs =
+    let at-loop = c .before .before .before in
+    let start = at-loop .before .before .before in
+    let w = start .pre .1 (at-loop .loop .m) (omega arith) in
+    omega (arith, w, c .wide .ensures, start .pre .0)
 
 returns : tie.Need-returns Inv-loop μ-loop
-returns c = let a = c .before .before .before .before .before .before .before .before .args in sym (any-some (blocksAt (now (a .ring)) (now (a .left)) (a .a) (a .b) (a .c)) (c .before .before .before .before .before .loop .m) (length (now (a .left))) (omega arith) (rw (c .before .blocks-it .ensures, c .before .before .wide .ensures) at (c .if1 .taken)))
+returns c =
+    let at-loop = c .before .before .before .before .before in
+    let start = at-loop .before .before .before in
+    let a = start .args in
+    sym (any-some (blocksAt (now (a .ring)) (now (a .left)) (a .a) (a .b) (a .c)) (at-loop .loop .m) (length (now (a .left))) (omega arith)
+    (rw (c .before .blocks-it .ensures, c .before .before .wide .ensures) at (c .if1 .taken)))
 
 add-m : tie.Need-add-m Inv-loop μ-loop
 add-m c = omega arith
@@ -44,7 +53,14 @@ loop-less : tie.Need-loop-less Inv-loop μ-loop
 loop-less c = omega arith
 
 loop-again : tie.Need-loop-again Inv-loop μ-loop
-loop-again c = let a = c .before .before .before .before .before .before .before .before .args in (rw (any-next (blocksAt (now (a .ring)) (now (a .left)) (a .a) (a .b) (a .c)) (c .before .before .before .before .before .loop .m), c .before .before .before .before .before .loop .inv .0) (rw (c .before .blocks-it .ensures, c .before .before .wide .ensures) at (c .if1 .left)), omega arith)
+loop-again c =
+    let at-loop = c .before .before .before .before .before in
+    let start = at-loop .before .before .before in
+    let a = start .args in (
+      rw (any-next (blocksAt (now (a .ring)) (now (a .left)) (a .a) (a .b) (a .c)) (at-loop .loop .m), at-loop .loop .inv .0)
+          (rw (c .before .blocks-it .ensures, c .before .before .wide .ensures) at (c .if1 .left)),
+      omega arith,
+    )
 
 returns-2 : tie.Need-returns-2 Inv-loop μ-loop
 returns-2 c = let e : c .before .loop .m ≡ length (now (c .before .before .before .before .args .left)) = omega (arith, c .before .loop .inv .1) in sym (rw e at (c .before .loop .inv .0))

@@ -9,17 +9,17 @@ use borrow.Author.Needs.{needs}
 use Rattle.shape.proofs.ears.blocks_it.Statement.{statement}
 use Rattle.shape.proofs.ears.blocks_it.Tie as tie
 
-point-requires : tie.Need-point-requires
-point-requires c κs = search needs
+whole-point-requires : tie.Need-whole-point-requires
+whole-point-requires c κs = search needs
 
-point-requires-2 : tie.Need-point-requires-2
-point-requires-2 c κs = search needs
+whole-point-requires-2 : tie.Need-whole-point-requires-2
+whole-point-requires-2 c κs = search needs
 
-point-requires-3 : tie.Need-point-requires-3
-point-requires-3 c κs = search needs
+whole-point-requires-3 : tie.Need-whole-point-requires-3
+whole-point-requires-3 c κs = search needs
 
-point-requires-4 : tie.Need-point-requires-4
-point-requires-4 c κs = search needs
+whole-point-requires-4 : tie.Need-whole-point-requires-4
+whole-point-requires-4 c κs = search needs
 
 is-inside-requires : tie.Need-is-inside-requires
 is-inside-requires c κs = search needs
@@ -29,20 +29,45 @@ is-other-requires c κs = search needs
 
 returns : tie.Need-returns
 unfolding blocks
-returns c = rw (c .is-other .ensures) (and-first (not (eqb (c .before .before .before .before .before .before .before .before .args .p) (c .before .before .before .before .before .before .before .before .args .a)) && (not (eqb (c .before .before .before .before .before .before .before .before .args .p) (c .before .before .before .before .before .before .before .before .args .b)) && not (eqb (c .before .before .before .before .before .before .before .before .args .p) (c .before .before .before .before .before .before .before .before .args .c)))) (inside (pointAt (now (c .before .before .before .before .before .before .before .before .args .ring)) (c .before .before .before .before .before .before .before .before .args .a)) (pointAt (now (c .before .before .before .before .before .before .before .before .args .ring)) (c .before .before .before .before .before .before .before .before .args .b)) (pointAt (now (c .before .before .before .before .before .before .before .before .args .ring)) (c .before .before .before .before .before .before .before .before .args .c)) (pointAt (now (c .before .before .before .before .before .before .before .before .args .ring)) (c .before .before .before .before .before .before .before .before .args .p))) (rw (c .before .before .is-inside .ensures, c .before .before .before .point4 .ensures, c .before .before .before .before .point3 .ensures, c .before .before .before .before .before .point2 .ensures, c .before .before .before .before .before .before .point .ensures) at (c .before .if1 .taken)))
+returns c =
+    let at-whole-point4 = c .before .before .before in
+    let at-whole-point = at-whole-point4 .before .before .before in
+    let start = at-whole-point .before .before in
+    rw (c .is-other .ensures) (and-first (not (eqb (start .args .p) (start .args .a)) &&
+    (not (eqb (start .args .p) (start .args .b)) && not (eqb (start .args .p) (start .args .c))))
+    (inside (pointAt (now (start .args .ring)) (start .args .a)) (pointAt (now (start .args .ring)) (start .args .b))
+    (pointAt (now (start .args .ring)) (start .args .c)) (pointAt (now (start .args .ring)) (start .args .p))) (rw (
+      c .before .before .is-inside .ensures,
+      at-whole-point4 .whole-point4 .ensures,
+      at-whole-point4 .before .whole-point3 .ensures,
+      at-whole-point4 .before .before .whole-point2 .ensures,
+      at-whole-point .whole-point .ensures,
+    ) at (c .before .if1 .taken)))
 
 returns-2 : tie.Need-returns-2
 unfolding blocks
-returns-2 c = and-none (not (eqb (c .before .before .before .before .before .before .before .args .p) (c .before .before .before .before .before .before .before .args .a)) && (not (eqb (c .before .before .before .before .before .before .before .args .p) (c .before .before .before .before .before .before .before .args .b)) && not (eqb (c .before .before .before .before .before .before .before .args .p) (c .before .before .before .before .before .before .before .args .c)))) (inside (pointAt (now (c .before .before .before .before .before .before .before .args .ring)) (c .before .before .before .before .before .before .before .args .a)) (pointAt (now (c .before .before .before .before .before .before .before .args .ring)) (c .before .before .before .before .before .before .before .args .b)) (pointAt (now (c .before .before .before .before .before .before .before .args .ring)) (c .before .before .before .before .before .before .before .args .c)) (pointAt (now (c .before .before .before .before .before .before .before .args .ring)) (c .before .before .before .before .before .before .before .args .p))) (rw (c .before .is-inside .ensures, c .before .before .point4 .ensures, c .before .before .before .point3 .ensures, c .before .before .before .before .point2 .ensures, c .before .before .before .before .before .point .ensures) at (c .if1 .left))
+returns-2 c =
+    let at-whole-point3 = c .before .before .before in
+    let start = at-whole-point3 .before .before .before .before in
+    and-none (not (eqb (start .args .p) (start .args .a)) &&
+    (not (eqb (start .args .p) (start .args .b)) && not (eqb (start .args .p) (start .args .c))))
+    (inside (pointAt (now (start .args .ring)) (start .args .a)) (pointAt (now (start .args .ring)) (start .args .b))
+    (pointAt (now (start .args .ring)) (start .args .c)) (pointAt (now (start .args .ring)) (start .args .p))) (rw (
+      c .before .is-inside .ensures,
+      c .before .before .whole-point4 .ensures,
+      at-whole-point3 .whole-point3 .ensures,
+      at-whole-point3 .before .whole-point2 .ensures,
+      at-whole-point3 .before .before .whole-point .ensures,
+    ) at (c .if1 .left))
 
 pub blocks-it-spec : {M : Type 1} → statement M
 blocks-it-spec =
     tie.close
     (tie.spec
-    point-requires
-    point-requires-2
-    point-requires-3
-    point-requires-4
+    whole-point-requires
+    whole-point-requires-2
+    whole-point-requires-3
+    whole-point-requires-4
     is-inside-requires
     is-other-requires
     returns

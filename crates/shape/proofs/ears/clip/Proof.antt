@@ -21,14 +21,27 @@ slice-aggregate-cut-all : tie.Need-slice-aggregate-cut-all
 slice-aggregate-cut-all c = search needs
 
 cut-all-requires : tie.Need-cut-all-requires
-cut-all-requires c κs = let n = length (now (c .before .before .before .before .before .before .before .args .ring)) / 3 in let e : take n (c .before .before .before .count-up .last .0) ≡ upTo n = put-front (c .before .before .before .count-up .ensures) (omega (arith, length-replicate {A = ℕ} 1024 0)) in ((omega (arith, length-replicate {A = ℕ} 1024 0, put-length (c .before .before .before .count-up .ensures))), rw e (within-up-to n n (omega arith)))
+cut-all-requires c κs =
+    let at-count-up = c .before .before .before in
+    let start = at-count-up .before .before .before .before in
+    let n = length (now (start .args .ring)) / 3 in
+    let e : take n (at-count-up .count-up .last .0) ≡ upTo n =
+    put-front (at-count-up .count-up .ensures) (omega (arith, length-replicate {A = ℕ} 1024 0)) in
+    ((omega (arith, length-replicate {A = ℕ} 1024 0, put-length (at-count-up .count-up .ensures))), rw e (within-up-to n n (omega arith)))
 
 same-length : tie.Need-same-length
 same-length c = search needs
 
 returns : tie.Need-returns
 unfolding earsOf
-returns c = let n = length (now (c .before .before .before .before .before .before .before .before .before .before .before .args .ring)) / 3 in let e : take n (c .before .before .before .before .before .before .before .count-up .last .0) ≡ upTo n = put-front (c .before .before .before .before .before .before .before .count-up .ensures) (omega (arith, length-replicate {A = ℕ} 1024 0)) in rw e at (c .before .before .before .cut-all .ensures)
+returns c =
+    let at-cut-all = c .before .before .before in
+    let at-count-up = at-cut-all .before .before .before .before in
+    let start = at-count-up .before .before .before .before in
+    let n = length (now (start .args .ring)) / 3 in
+    let e : take n (at-count-up .count-up .last .0) ≡ upTo n =
+    put-front (at-count-up .count-up .ensures) (omega (arith, length-replicate {A = ℕ} 1024 0)) in
+    rw e at (at-cut-all .cut-all .ensures)
 
 pub clip-spec : {M : Type 1} → statement M
 clip-spec =

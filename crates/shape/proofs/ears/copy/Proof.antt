@@ -1,7 +1,7 @@
 -- `shape::ears::copy` meets its contract: the first i words are copied. Assumes nothing.
 use mathlib.Core.Path.{_≡_, refl}
 use mathlib.Core.List.{_++_}
-use Prim.Native.Nat.{_+_, _-_, _<_, _≤_}
+use Prim.Native.Nat.{_+_, _-_, _≤_}
 use native.Mathlib.Omega.{arith}
 use denote.Ref.{now}
 use lib.ListN.{length, take, drop, length-set}
@@ -37,7 +37,11 @@ loop-less : tie.Need-loop-less Inv-loop μ-loop
 loop-less c = omega arith
 
 loop-again : tie.Need-loop-again Inv-loop μ-loop
-loop-again c = let a = c .before .before .before .args in let l = c .before .before .loop in (copied-next (now (a .from)) (now (a .to)) (l .to) (l .i) (l .inv .0) (omega arith) (omega arith), omega arith, simp length-set (l .inv .2))
+loop-again c =
+    let start = c .before .before .before in
+    let a = start .args in
+    let l = c .before .before .loop in
+    (copied-next (now (a .from)) (now (a .to)) (l .to) (l .i) (l .inv .0) (omega arith) (omega arith), omega arith, simp length-set (l .inv .2))
 
 same-length : tie.Need-same-length Inv-loop μ-loop
 same-length c = c .before .loop .inv .2

@@ -1,7 +1,7 @@
 -- `shape::ears::count_up` meets its contract: the numbers below i are put. Assumes nothing.
 use mathlib.Core.Path.{_≡_, refl}
 use mathlib.Core.List.{[], _∷_}
-use Prim.Native.Nat.{_+_, _-_, _<_, _≤_}
+use Prim.Native.Nat.{_-_, _≤_}
 use native.Mathlib.Omega.{arith}
 use Rattle.shape.specs.Gather.{gather}
 use Rattle.shape.specs.Memory.{Put}

@@ -1,7 +1,7 @@
 -- `shape::ears::first_ear` meets its contract: no position before k has an ear. Assumes nothing.
-use mathlib.Core.Path.{_≡_, refl, sym, ap, _∙_}
+use mathlib.Core.Path.{_≡_, refl, sym, _∙_}
 use mathlib.Core.Bool.{false}
-use Prim.Native.Nat.{_+_, _-_, _<_, _≤_}
+use Prim.Native.Nat.{_-_, _≤_}
 use native.Mathlib.Omega.{arith}
 use denote.Ref.{now}
 use lib.ListN.{length}
@@ -27,7 +27,16 @@ is-ear-requires c κs = (omega arith, c .before .before .before .before .pre .1)
 
 returns : tie.Need-returns Inv-loop μ-loop
 unfolding firstEar
-returns c = let a = c .before .before .before .before .before .before .args in let f = isEar (now (a .ring)) (now (a .left)) in let l = c .before .before .before .loop in (least-at f (length (now (a .left))) (l .k) (omega arith) (λ j h. any-none f j (l .k) h (l .inv .0)) (sym (c .before .is-ear .ensures) ∙ c .if1 .taken), l .inv .1)
+returns c =
+    let at-loop = c .before .before .before in
+    let start = at-loop .before .before .before in
+    let a = start .args in
+    let f = isEar (now (a .ring)) (now (a .left)) in
+    let l = at-loop .loop in (
+      least-at f (length (now (a .left))) (l .k) (omega arith) (λ j h. any-none f j (l .k) h (l .inv .0))
+          (sym (c .before .is-ear .ensures) ∙ c .if1 .taken),
+      l .inv .1,
+    )
 
 add-k : tie.Need-add-k Inv-loop μ-loop
 add-k c = omega arith
@@ -36,11 +45,23 @@ loop-less : tie.Need-loop-less Inv-loop μ-loop
 loop-less c = omega arith
 
 loop-again : tie.Need-loop-again Inv-loop μ-loop
-loop-again c = let a = c .before .before .before .before .before .before .args in let f = isEar (now (a .ring)) (now (a .left)) in let l = c .before .before .before .loop in (rw (any-next f (l .k), l .inv .0) (sym (c .before .is-ear .ensures) ∙ c .if1 .left), omega arith)
+loop-again c =
+    let at-loop = c .before .before .before in
+    let start = at-loop .before .before .before in
+    let a = start .args in
+    let f = isEar (now (a .ring)) (now (a .left)) in
+    let l = at-loop .loop in
+    (rw (any-next f (l .k), l .inv .0) (sym (c .before .is-ear .ensures) ∙ c .if1 .left), omega arith)
 
 returns-2 : tie.Need-returns-2 Inv-loop μ-loop
 unfolding firstEar
-returns-2 c = let a = c .before .before .before .before .args in let f = isEar (now (a .ring)) (now (a .left)) in let l = c .before .loop in let e : l .k ≡ length (now (a .left)) = omega (arith, l .inv .1) in (e ∙ least-none f (length (now (a .left))) (λ j h. any-none f j (length (now (a .left))) h (rw e at (l .inv .0))), l .inv .1)
+returns-2 c =
+    let start = c .before .before .before .before in
+    let a = start .args in
+    let f = isEar (now (a .ring)) (now (a .left)) in
+    let l = c .before .loop in
+    let e : l .k ≡ length (now (a .left)) = omega (arith, l .inv .1) in
+    (e ∙ least-none f (length (now (a .left))) (λ j h. any-none f j (length (now (a .left))) h (rw e at (l .inv .0))), l .inv .1)
 
 pub first-ear-spec : {M : Type 1} → statement M
 first-ear-spec =

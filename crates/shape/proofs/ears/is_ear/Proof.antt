@@ -39,11 +39,33 @@ wide-requires-3 : tie.Need-wide-requires-3
 wide-requires-3 c κs = search needs
 
 is-triangle-requires : tie.Need-is-triangle-requires
-is-triangle-requires c κs = let w = c .before .before .before .before .before .before .before .before .before .before .pre .1 in ((omega (arith, w (c .before .before .before .before .before .before .before .index-before .result) (c .before .before .before .before .before .before .before .index-before .ensures .1), c .before .before .before .before .wide .ensures), omega (arith, w (c .before .before .before .before .before .before .before .before .before .before .args .k) (c .before .before .before .before .before .before .before .before .before .before .pre .0 .0), c .before .before .wide2 .ensures), omega (arith, w (c .before .before .before .before .before .before .index-after .result) (c .before .before .before .before .before .before .index-after .ensures .1), c .wide3 .ensures)), w)
+is-triangle-requires c κs =
+    let at-wide = c .before .before .before .before in
+    let at-index-after = at-wide .before .before in
+    let at-index-before = at-index-after .before in
+    let start = at-index-before .before .before .before in
+    let w = start .pre .1 in (
+      (
+        omega (arith, w (at-index-before .index-before .result) (at-index-before .index-before .ensures .1), at-wide .wide .ensures),
+        omega (arith, w (start .args .k) (start .pre .0 .0), c .before .before .wide2 .ensures),
+        omega (arith, w (at-index-after .index-after .result) (at-index-after .index-after .ensures .1), c .wide3 .ensures),
+      ),
+      w,
+    )
 
 returns : tie.Need-returns
 unfolding isEar
-returns c = rw (c .is-triangle .ensures, c .before .wide3 .ensures, c .before .before .before .wide2 .ensures, c .before .before .before .before .before .wide .ensures, c .before .before .before .before .before .before .before .index-after .ensures .0, c .before .before .before .before .before .before .before .before .index-before .ensures .0)
+returns c =
+    let at-wide2 = c .before .before .before in
+    let at-index-after = at-wide2 .before .before .before .before in
+    rw (
+      c .is-triangle .ensures,
+      c .before .wide3 .ensures,
+      at-wide2 .wide2 .ensures,
+      at-wide2 .before .before .wide .ensures,
+      at-index-after .index-after .ensures .0,
+      at-index-after .before .index-before .ensures .0,
+    )
 
 pub is-ear-spec : {M : Type 1} → statement M
 is-ear-spec =

@@ -18,15 +18,28 @@ cross-of-requires-3 c κs = search needs
 
 returns : tie.Need-returns
 unfolding inside
-returns c = rw (c .cross-of3 .ensures) (and-last (le 0f (cross (c .before .before .before .before .before .args .a) (c .before .before .before .before .before .args .b) (c .before .before .before .before .before .args .p))) (le 0f (cross (c .before .before .before .before .before .args .b) (c .before .before .before .before .before .args .c) (c .before .before .before .before .before .args .p))) (le 0f (cross (c .before .before .before .before .before .args .c) (c .before .before .before .before .before .args .a) (c .before .before .before .before .before .args .p))) (rw (c .before .before .before .before .cross-of .ensures) at (c .before .before .before .if1 .taken)) (rw (c .before .before .cross-of2 .ensures) at (c .before .if2 .taken)))
+returns c =
+    let at-if1 = c .before .before .before in
+    let start = at-if1 .before .before in
+    rw (c .cross-of3 .ensures) (and-last (le 0f (cross (start .args .a) (start .args .b) (start .args .p)))
+    (le 0f (cross (start .args .b) (start .args .c) (start .args .p))) (le 0f (cross (start .args .c) (start .args .a) (start .args .p)))
+    (rw (at-if1 .before .cross-of .ensures) at (at-if1 .if1 .taken)) (rw (c .before .before .cross-of2 .ensures) at (c .before .if2 .taken)))
 
 returns-2 : tie.Need-returns-2
 unfolding inside
-returns-2 c = and-left (le 0f (cross (c .before .before .before .before .args .a) (c .before .before .before .before .args .b) (c .before .before .before .before .args .p))) (le 0f (cross (c .before .before .before .before .args .b) (c .before .before .before .before .args .c) (c .before .before .before .before .args .p))) (le 0f (cross (c .before .before .before .before .args .c) (c .before .before .before .before .args .a) (c .before .before .before .before .args .p))) (rw (c .before .cross-of2 .ensures) at (c .if2 .left))
+returns-2 c =
+    let start = c .before .before .before .before in
+    and-left (le 0f (cross (start .args .a) (start .args .b) (start .args .p)))
+    (le 0f (cross (start .args .b) (start .args .c) (start .args .p))) (le 0f (cross (start .args .c) (start .args .a) (start .args .p)))
+    (rw (c .before .cross-of2 .ensures) at (c .if2 .left))
 
 returns-3 : tie.Need-returns-3
 unfolding inside
-returns-3 c = and-right (le 0f (cross (c .before .before .args .a) (c .before .before .args .b) (c .before .before .args .p))) (le 0f (cross (c .before .before .args .b) (c .before .before .args .c) (c .before .before .args .p))) (le 0f (cross (c .before .before .args .c) (c .before .before .args .a) (c .before .before .args .p))) (rw (c .before .cross-of .ensures) at (c .if1 .left))
+returns-3 c =
+    let start = c .before .before in
+    and-right (le 0f (cross (start .args .a) (start .args .b) (start .args .p)))
+    (le 0f (cross (start .args .b) (start .args .c) (start .args .p))) (le 0f (cross (start .args .c) (start .args .a) (start .args .p)))
+    (rw (c .before .cross-of .ensures) at (c .if1 .left))
 
 pub is-inside-spec : {M : Type 1} → statement M
 is-inside-spec =

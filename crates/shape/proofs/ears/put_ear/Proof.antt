@@ -37,7 +37,10 @@ same-length c = search needs
 
 returns : tie.Need-returns
 unfolding earAt
-returns c = rw (← (c .before .before .before .before .before .before .before .index-after .ensures .0), ← (c .before .before .before .before .before .before .before .before .index-before .ensures .0)) (c .before .before .put-three .ensures)
+returns c =
+    let at-index-after = c .before .before .before .before .before .before .before in
+    rw (← (at-index-after .index-after .ensures .0), ← (at-index-after .before .index-before .ensures .0))
+    (c .before .before .put-three .ensures)
 
 pub put-ear-spec : {M : Type 1} → statement M
 put-ear-spec =

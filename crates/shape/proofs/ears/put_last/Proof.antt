@@ -29,7 +29,14 @@ wide-requires-3 : tie.Need-wide-requires-3
 wide-requires-3 c κs = search needs
 
 turns-left-requires : tie.Need-turns-left-requires
-turns-left-requires c κs = let w = c .before .before .before .before .before .before .before .before .before .before .pre .1 in (omega (arith, w 0 (omega arith), c .before .before .before .before .wide .ensures), omega (arith, w 1 (omega arith), c .before .before .wide2 .ensures), omega (arith, w 2 (omega arith), c .wide3 .ensures))
+turns-left-requires c κs =
+    let at-wide = c .before .before .before .before in
+    let start = at-wide .before .before .before .before .before .before in
+    let w = start .pre .1 in (
+      omega (arith, w 0 (omega arith), at-wide .wide .ensures),
+      omega (arith, w 1 (omega arith), c .before .before .wide2 .ensures),
+      omega (arith, w 2 (omega arith), c .wide3 .ensures),
+    )
 
 shared-slice-read-put-three : tie.Need-shared-slice-read-put-three
 shared-slice-read-put-three c = search needs
@@ -47,10 +54,30 @@ same-length : tie.Need-same-length
 same-length c = search needs
 
 returns-2 : tie.Need-returns-2
-returns-2 c = let a = c .before .before .before .before .before .before .before .before .before .before .before .before .before .before .before .before .before .before .before .args in rw (last-some (now (a .ring)) (now (a .left)) (c .before .before .before .before .before .before .before .before .before .before .before .before .before .before .before .if1 .left) (rw (c .before .before .before .before .before .before .before .before .turns-left .ensures, c .before .before .before .before .before .before .before .before .before .wide3 .ensures, c .before .before .before .before .before .before .before .before .before .before .before .wide2 .ensures, c .before .before .before .before .before .before .before .before .before .before .before .before .before .wide .ensures) at (c .before .before .before .before .before .before .before .if2 .taken))) (c .before .before .put-three .ensures)
+returns-2 c =
+    let at-if2 = c .before .before .before .before .before .before .before in
+    let at-wide2 = at-if2 .before .before .before .before in
+    let at-if1 = at-wide2 .before .before .before .before in
+    let start = at-if1 .before .before .before .before in
+    let a = start .args in
+    rw (last-some (now (a .ring)) (now (a .left)) (at-if1 .if1 .left) (rw (
+      at-if2 .before .turns-left .ensures,
+      at-if2 .before .before .wide3 .ensures,
+      at-wide2 .wide2 .ensures,
+      at-wide2 .before .before .wide .ensures,
+    ) at (at-if2 .if2 .taken))) (c .before .before .put-three .ensures)
 
 returns-3 : tie.Need-returns-3
-returns-3 c = let a = c .before .before .before .before .before .before .before .before .before .before .before .before .args in rw (last-flat (now (a .ring)) (now (a .left)) (rw (c .before .turns-left .ensures, c .before .before .wide3 .ensures, c .before .before .before .before .wide2 .ensures, c .before .before .before .before .before .before .wide .ensures) at (c .if2 .left))) (put-none _ _)
+returns-3 c =
+    let at-wide2 = c .before .before .before .before in
+    let start = at-wide2 .before .before .before .before .before .before .before .before in
+    let a = start .args in
+    rw (last-flat (now (a .ring)) (now (a .left)) (rw (
+      c .before .turns-left .ensures,
+      c .before .before .wide3 .ensures,
+      at-wide2 .wide2 .ensures,
+      at-wide2 .before .before .wide .ensures,
+    ) at (c .if2 .left))) (put-none _ _)
 
 pub put-last-spec : {M : Type 1} → statement M
 put-last-spec =

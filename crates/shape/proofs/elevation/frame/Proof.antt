@@ -42,7 +42,24 @@ slopes-requires-6 c κs = search needs
 
 returns : tie.Need-returns
 unfolding frameOf
-returns c = rw (c .slopes6 .ensures, c .before .second-of2 .ensures, c .before .before .second-of .ensures, c .before .before .before .slopes5 .ensures, c .before .before .before .before .first-of2 .ensures, c .before .before .before .before .before .first-of .ensures, c .before .before .before .before .before .before .row-slopes2 .ensures, c .before .before .before .before .before .before .before .row-slopes .ensures, c .before .before .before .before .before .before .before .before .slopes4 .ensures, c .before .before .before .before .before .before .before .before .before .slopes3 .ensures, c .before .before .before .before .before .before .before .before .before .before .slopes2 .ensures, c .before .before .before .before .before .before .before .before .before .before .before .slopes .ensures)
+returns c =
+    let at-slopes5 = c .before .before .before in
+    let at-row-slopes2 = at-slopes5 .before .before .before in
+    let at-slopes3 = at-row-slopes2 .before .before .before in
+    rw (
+      c .slopes6 .ensures,
+      c .before .second-of2 .ensures,
+      c .before .before .second-of .ensures,
+      at-slopes5 .slopes5 .ensures,
+      at-slopes5 .before .first-of2 .ensures,
+      at-slopes5 .before .before .first-of .ensures,
+      at-row-slopes2 .row-slopes2 .ensures,
+      at-row-slopes2 .before .row-slopes .ensures,
+      at-row-slopes2 .before .before .slopes4 .ensures,
+      at-slopes3 .slopes3 .ensures,
+      at-slopes3 .before .slopes2 .ensures,
+      at-slopes3 .before .before .slopes .ensures,
+    )
 
 pub frame-spec : {M : Type 1} → statement M
 frame-spec =

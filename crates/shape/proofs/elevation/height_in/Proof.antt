@@ -11,13 +11,22 @@ use Rattle.shape.proofs.elevation.height_in.Statement.{statement}
 use Rattle.shape.proofs.elevation.height_in.Tie as tie
 
 returns : tie.Need-returns
-returns c = spacing-nan (c .before .before .before .before .args .grid) (now (c .before .before .before .before .args .rows)) (now (c .before .before .before .before .args .left)) (now (c .before .before .before .before .args .right)) (c .before .before .before .before .args .s) (c .before .before .before .before .args .t) (c .if1 .taken)
+returns c =
+    let start = c .before .before .before .before in
+    spacing-nan (start .args .grid) (now (start .args .rows)) (now (start .args .left)) (now (start .args .right)) (start .args .s)
+    (start .args .t) (c .if1 .taken)
 
 returns-2 : tie.Need-returns-2
-returns-2 c = spacing-low (c .before .before .before .before .before .args .grid) (now (c .before .before .before .before .before .args .rows)) (now (c .before .before .before .before .before .args .left)) (now (c .before .before .before .before .before .args .right)) (c .before .before .before .before .before .args .s) (c .before .before .before .before .before .args .t) (c .if2 .taken)
+returns-2 c =
+    let start = c .before .before .before .before .before in
+    spacing-low (start .args .grid) (now (start .args .rows)) (now (start .args .left)) (now (start .args .right)) (start .args .s)
+    (start .args .t) (c .if2 .taken)
 
 returns-3 : tie.Need-returns-3
-returns-3 c = no-rows (c .before .before .before .before .before .before .args .grid) (now (c .before .before .before .before .before .before .args .rows)) (now (c .before .before .before .before .before .before .args .left)) (now (c .before .before .before .before .before .before .args .right)) (c .before .before .before .before .before .before .args .s) (c .before .before .before .before .before .before .args .t) (eq-eqb _ _ (c .if3 .taken)) (c .before .before .if1 .left) (c .before .if2 .left)
+returns-3 c =
+    let start = c .before .before .before .before .before .before in
+    no-rows (start .args .grid) (now (start .args .rows)) (now (start .args .left)) (now (start .args .right)) (start .args .s) (start .args .t)
+    (eq-eqb _ _ (c .if3 .taken)) (c .before .before .if1 .left) (c .before .if2 .left)
 
 snap-requires : tie.Need-snap-requires
 snap-requires c κs = search needs
@@ -29,34 +38,82 @@ sub-last : tie.Need-sub-last
 sub-last c = search needs
 
 int-to-float-last : tie.Need-int-to-float-last
-int-to-float-last c = count-whole _ (omega (arith, c .before .before .before .before .before .before .before .before .before .before .pre .few))
+int-to-float-last c =
+    let at-if2 = c .before .before .before .before .before in
+    let start = at-if2 .before .before .before .before .before in
+    count-whole _ (omega (arith, start .pre .few))
 
 int-to-float-wide : tie.Need-int-to-float-wide
-int-to-float-wide c = count-whole _ (c .before .before .before .before .before .before .before .before .before .before .before .pre .narrow)
+int-to-float-wide c =
+    let at-snap = c .before .before .before in
+    let start = at-snap .before .before .before .before .before .before .before .before in
+    count-whole _ (start .pre .narrow)
 
-between-requires : tie.Need-between-requires
-between-requires c κs = search needs
+is-within-requires : tie.Need-is-within-requires
+is-within-requires c κs = search needs
 
 returns-4 : tie.Need-returns-4
-returns-4 c = off-rows (now (c .before .before .before .before .before .before .before .before .before .before .before .before .before .args .rows)) (now (c .before .before .before .before .before .before .before .before .before .before .before .before .before .args .left)) (now (c .before .before .before .before .before .before .before .before .before .before .before .before .before .args .right)) _ _ (sym (c .before .between .ensures) ∙ not-true (c .before .between .result) (c .if4 .taken)) ∙ some-rows (c .before .before .before .before .before .before .before .before .before .before .before .before .before .args .grid) (now (c .before .before .before .before .before .before .before .before .before .before .before .before .before .args .rows)) (now (c .before .before .before .before .before .before .before .before .before .before .before .before .before .args .left)) (now (c .before .before .before .before .before .before .before .before .before .before .before .before .before .args .right)) (c .before .before .before .before .before .before .before .before .before .before .before .before .before .args .s) (c .before .before .before .before .before .before .before .before .before .before .before .before .before .args .t) (ne-eqb _ _ (c .before .before .before .before .before .before .before .if3 .left)) (c .before .before .before .before .before .before .before .before .before .if1 .left) (c .before .before .before .before .before .before .before .before .if2 .left) (c .before .before .before .before .before .snap .ensures) (c .before .before .before .before .snap2 .ensures)
+returns-4 c =
+    let at-snap2 = c .before .before .before .before in
+    let at-if3 = at-snap2 .before .before .before in
+    let start = at-if3 .before .before .before .before .before .before in
+    off-rows (now (start .args .rows)) (now (start .args .left)) (now (start .args .right)) _ _
+    (sym (c .before .is-within .ensures) ∙ not-true (c .before .is-within .result) (c .if4 .taken))
+    ∙ some-rows (start .args .grid) (now (start .args .rows)) (now (start .args .left)) (now (start .args .right)) (start .args .s)
+    (start .args .t) (ne-eqb _ _ (at-if3 .if3 .left)) (at-if3 .before .before .if1 .left) (at-if3 .before .if2 .left)
+    (at-snap2 .before .snap .ensures) (at-snap2 .snap2 .ensures)
 
-between-requires-2 : tie.Need-between-requires-2
-between-requires-2 c κs = search needs
+is-within-requires-2 : tie.Need-is-within-requires-2
+is-within-requires-2 c κs = search needs
 
 returns-5 : tie.Need-returns-5
-returns-5 c = off-columns (now (c .before .before .before .before .before .before .before .before .before .before .before .before .before .before .before .args .rows)) (now (c .before .before .before .before .before .before .before .before .before .before .before .before .before .before .before .args .left)) (now (c .before .before .before .before .before .before .before .before .before .before .before .before .before .before .before .args .right)) _ _ (c .before .before .before .before .before .before .before .before .before .before .before .before .before .before .before .args .most) (c .before .before .before .before .before .before .before .before .before .before .before .before .before .before .before .pre .widest) (sym (c .before .before .before .between .ensures) ∙ not-false (c .before .before .before .between .result) (c .before .before .if4 .left)) (sym (c .before .between2 .ensures) ∙ not-true (c .before .between2 .result) (c .if5 .taken)) ∙ some-rows (c .before .before .before .before .before .before .before .before .before .before .before .before .before .before .before .args .grid) (now (c .before .before .before .before .before .before .before .before .before .before .before .before .before .before .before .args .rows)) (now (c .before .before .before .before .before .before .before .before .before .before .before .before .before .before .before .args .left)) (now (c .before .before .before .before .before .before .before .before .before .before .before .before .before .before .before .args .right)) (c .before .before .before .before .before .before .before .before .before .before .before .before .before .before .before .args .s) (c .before .before .before .before .before .before .before .before .before .before .before .before .before .before .before .args .t) (ne-eqb _ _ (c .before .before .before .before .before .before .before .before .before .if3 .left)) (c .before .before .before .before .before .before .before .before .before .before .before .if1 .left) (c .before .before .before .before .before .before .before .before .before .before .if2 .left) (c .before .before .before .before .before .before .before .snap .ensures) (c .before .before .before .before .before .before .snap2 .ensures)
+returns-5 c =
+    let at-is-within = c .before .before .before in
+    let at-snap2 = at-is-within .before .before .before in
+    let at-if3 = at-snap2 .before .before .before in
+    let start = at-if3 .before .before .before .before .before .before in
+    off-columns (now (start .args .rows)) (now (start .args .left)) (now (start .args .right)) _ _ (start .args .most) (start .pre .widest)
+    (sym (at-is-within .is-within .ensures) ∙ not-false (at-is-within .is-within .result) (c .before .before .if4 .left))
+    (sym (c .before .is-within2 .ensures) ∙ not-true (c .before .is-within2 .result) (c .if5 .taken))
+    ∙ some-rows (start .args .grid) (now (start .args .rows)) (now (start .args .left)) (now (start .args .right)) (start .args .s)
+    (start .args .t) (ne-eqb _ _ (at-if3 .if3 .left)) (at-if3 .before .before .if1 .left) (at-if3 .before .if2 .left)
+    (at-snap2 .before .snap .ensures) (at-snap2 .snap2 .ensures)
 
 place-of-requires : tie.Need-place-of-requires
-place-of-requires c κs = row-near _ _ (omega (arith, c .before .before .before .before .before .before .before .before .before .before .before .before .before .before .before .pre .few)) (sym (c .before .before .before .between .ensures) ∙ not-false (c .before .before .before .between .result) (c .before .before .if4 .left))
+place-of-requires c κs =
+    let at-is-within = c .before .before .before in
+    let at-snap = at-is-within .before .before .before .before in
+    let start = at-snap .before .before .before .before .before .before .before .before in
+    row-near _ _ (omega (arith, start .pre .few))
+    (sym (at-is-within .is-within .ensures) ∙ not-false (at-is-within .is-within .result) (c .before .before .if4 .left))
 
 place-of-requires-2 : tie.Need-place-of-requires-2
-place-of-requires-2 c κs = column-near _ _ (c .before .before .before .before .before .before .before .before .before .before .before .before .before .before .before .before .pre .narrow) (sym (c .before .before .between2 .ensures) ∙ not-false (c .before .before .between2 .result) (c .before .if5 .left))
+place-of-requires-2 c κs =
+    let at-snap = c .before .before .before .before .before .before .before .before in
+    let start = at-snap .before .before .before .before .before .before .before .before in
+    column-near _ _ (start .pre .narrow)
+    (sym (c .before .before .is-within2 .ensures) ∙ not-false (c .before .before .is-within2 .result) (c .before .if5 .left))
 
 on-grid-requires : tie.Need-on-grid-requires
 on-grid-requires c κs = (c .before .place-of .ensures .low, c .before .place-of .ensures .high, c .place-of2 .ensures .low, c .place-of2 .ensures .high)
 
 returns-6 : tie.Need-returns-6
-returns-6 c = c .on-grid .ensures ∙ on-grid-is (valueOf (now (c .before .before .before .before .before .before .before .before .before .before .before .before .before .before .before .before .before .before .args .rows)) (now (c .before .before .before .before .before .before .before .before .before .before .before .before .before .before .before .before .before .before .args .left)) (now (c .before .before .before .before .before .before .before .before .before .before .before .before .before .before .before .before .before .before .args .right))) _ _ _ _ (c .before .before .place-of .ensures) (c .before .place-of2 .ensures) ∙ on-both (now (c .before .before .before .before .before .before .before .before .before .before .before .before .before .before .before .before .before .before .args .rows)) (now (c .before .before .before .before .before .before .before .before .before .before .before .before .before .before .before .before .before .before .args .left)) (now (c .before .before .before .before .before .before .before .before .before .before .before .before .before .before .before .before .before .before .args .right)) _ _ (c .before .before .before .before .before .before .before .before .before .before .before .before .before .before .before .before .before .before .args .most) (c .before .before .before .before .before .before .before .before .before .before .before .before .before .before .before .before .before .before .pre .widest) (sym (c .before .before .before .before .before .before .between .ensures) ∙ not-false (c .before .before .before .before .before .before .between .result) (c .before .before .before .before .before .if4 .left)) (sym (c .before .before .before .before .between2 .ensures) ∙ not-false (c .before .before .before .before .between2 .result) (c .before .before .before .if5 .left)) ∙ some-rows (c .before .before .before .before .before .before .before .before .before .before .before .before .before .before .before .before .before .before .args .grid) (now (c .before .before .before .before .before .before .before .before .before .before .before .before .before .before .before .before .before .before .args .rows)) (now (c .before .before .before .before .before .before .before .before .before .before .before .before .before .before .before .before .before .before .args .left)) (now (c .before .before .before .before .before .before .before .before .before .before .before .before .before .before .before .before .before .before .args .right)) (c .before .before .before .before .before .before .before .before .before .before .before .before .before .before .before .before .before .before .args .s) (c .before .before .before .before .before .before .before .before .before .before .before .before .before .before .before .before .before .before .args .t) (ne-eqb _ _ (c .before .before .before .before .before .before .before .before .before .before .before .before .if3 .left)) (c .before .before .before .before .before .before .before .before .before .before .before .before .before .before .if1 .left) (c .before .before .before .before .before .before .before .before .before .before .before .before .before .if2 .left) (c .before .before .before .before .before .before .before .before .before .before .snap .ensures) (c .before .before .before .before .before .before .before .before .before .snap2 .ensures)
+returns-6 c =
+    let at-if5 = c .before .before .before in
+    let at-is-within2 = at-if5 .before in
+    let at-is-within = at-is-within2 .before .before in
+    let at-snap2 = at-is-within .before .before .before in
+    let at-if3 = at-snap2 .before .before .before in
+    let start = at-if3 .before .before .before .before .before .before in
+    c .on-grid .ensures
+    ∙ on-grid-is (valueOf (now (start .args .rows)) (now (start .args .left)) (now (start .args .right))) _ _ _ _
+    (c .before .before .place-of .ensures) (c .before .place-of2 .ensures)
+    ∙ on-both (now (start .args .rows)) (now (start .args .left)) (now (start .args .right)) _ _ (start .args .most) (start .pre .widest)
+    (sym (at-is-within .is-within .ensures) ∙ not-false (at-is-within .is-within .result) (at-is-within2 .before .if4 .left))
+    (sym (at-is-within2 .is-within2 .ensures) ∙ not-false (at-is-within2 .is-within2 .result) (at-if5 .if5 .left))
+    ∙ some-rows (start .args .grid) (now (start .args .rows)) (now (start .args .left)) (now (start .args .right)) (start .args .s)
+    (start .args .t) (ne-eqb _ _ (at-if3 .if3 .left)) (at-if3 .before .before .if1 .left) (at-if3 .before .if2 .left)
+    (at-snap2 .before .snap .ensures) (at-snap2 .snap2 .ensures)
 
 pub height-in-spec : {M : Type 1} → statement M
 height-in-spec =
@@ -70,9 +127,9 @@ height-in-spec =
     sub-last
     int-to-float-last
     int-to-float-wide
-    between-requires
+    is-within-requires
     returns-4
-    between-requires-2
+    is-within-requires-2
     returns-5
     place-of-requires
     place-of-requires-2

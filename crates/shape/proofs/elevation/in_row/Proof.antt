@@ -25,7 +25,11 @@ in-square-requires-2 : tie.Need-in-square-requires-2
 in-square-requires-2 c κs = search needs
 
 returns-2 : tie.Need-returns-2
-returns-2 c = tried-below _ (c .before .before .before .before .before .before .before .before .before .before .args .column .line) _ (omega (arith, c .before .before .before .before .before .before .before .before .before .before .pre)) (c .before .before .before .before .before .if1 .taken) (sym (c .before .before .before .before .in-square .ensures) ∙ c .before .before .enum-told .given .1) (c .in-square2 .ensures)
+returns-2 c =
+    let at-in-square = c .before .before .before .before in
+    let start = at-in-square .before .before .before .before .before .before in
+    tried-below _ (start .args .column .line) _ (omega (arith, start .pre)) (at-in-square .before .if1 .taken)
+    (sym (at-in-square .in-square .ensures) ∙ c .before .before .enum-told .given .1) (c .in-square2 .ensures)
 
 in-square-requires-3 : tie.Need-in-square-requires-3
 in-square-requires-3 c κs = search needs

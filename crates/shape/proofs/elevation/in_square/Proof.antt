@@ -24,7 +24,13 @@ enum-told : tie.Need-enum-told
 enum-told c = search needs
 
 returns : tie.Need-returns
-returns c = none-1 _ _ _ _ _ _ (c .enum-told .given .1) ∙ square-is (valueOf (now (c .before .before .before .before .before .before .before .args .rows)) (now (c .before .before .before .before .before .before .before .args .left)) (now (c .before .before .before .before .before .before .before .args .right))) (c .before .before .before .before .before .before .before .args .i) (subℕ (c .before .before .before .before .before .before .before .args .j) 2048) (c .before .before .before .before .before .before .before .args .x) (c .before .before .before .before .before .before .before .args .y) (c .before .before .before .before .before .before .before .pre .0) refl (c .before .before .before .line-at .ensures) (c .before .before .line-at2 .ensures) refl
+returns c =
+    let at-line-at = c .before .before .before in
+    let start = at-line-at .before .before .before .before in
+    none-1 _ _ _ _ _ _ (c .enum-told .given .1)
+    ∙ square-is (valueOf (now (start .args .rows)) (now (start .args .left)) (now (start .args .right))) (start .args .i)
+    (subℕ (start .args .j) 2048) (start .args .x) (start .args .y) (start .pre .0) refl (at-line-at .line-at .ensures)
+    (c .before .before .line-at2 .ensures) refl
 
 enum-known-b : tie.Need-enum-known-b
 enum-known-b c = search needs
@@ -33,7 +39,14 @@ enum-told-2 : tie.Need-enum-told-2
 enum-told-2 c = search needs
 
 returns-2 : tie.Need-returns-2
-returns-2 c = none-2 _ _ _ _ _ _ (c .before .before .before .a .given .1) (c .enum-told2 .given .1) ∙ square-is (valueOf (now (c .before .before .before .before .before .before .before .before .before .before .args .rows)) (now (c .before .before .before .before .before .before .before .before .before .before .args .left)) (now (c .before .before .before .before .before .before .before .before .before .before .args .right))) (c .before .before .before .before .before .before .before .before .before .before .args .i) (subℕ (c .before .before .before .before .before .before .before .before .before .before .args .j) 2048) (c .before .before .before .before .before .before .before .before .before .before .args .x) (c .before .before .before .before .before .before .before .before .before .before .args .y) (c .before .before .before .before .before .before .before .before .before .before .pre .0) refl (c .before .before .before .before .before .before .line-at .ensures) (c .before .before .before .before .before .line-at2 .ensures) refl
+returns-2 c =
+    let at-a = c .before .before .before in
+    let at-line-at = at-a .before .before .before in
+    let start = at-line-at .before .before .before .before in
+    none-2 _ _ _ _ _ _ (at-a .a .given .1) (c .enum-told2 .given .1)
+    ∙ square-is (valueOf (now (start .args .rows)) (now (start .args .left)) (now (start .args .right))) (start .args .i)
+    (subℕ (start .args .j) 2048) (start .args .x) (start .args .y) (start .pre .0) refl (at-line-at .line-at .ensures)
+    (at-a .before .before .line-at2 .ensures) refl
 
 enum-known-c : tie.Need-enum-known-c
 enum-known-c c = search needs
@@ -42,7 +55,15 @@ enum-told-3 : tie.Need-enum-told-3
 enum-told-3 c = search needs
 
 returns-3 : tie.Need-returns-3
-returns-3 c = none-3 _ _ _ _ _ _ (c .before .before .before .before .before .before .a .given .1) (c .before .before .before .b .given .1) (c .enum-told3 .given .1) ∙ square-is (valueOf (now (c .before .before .before .before .before .before .before .before .before .before .before .before .before .args .rows)) (now (c .before .before .before .before .before .before .before .before .before .before .before .before .before .args .left)) (now (c .before .before .before .before .before .before .before .before .before .before .before .before .before .args .right))) (c .before .before .before .before .before .before .before .before .before .before .before .before .before .args .i) (subℕ (c .before .before .before .before .before .before .before .before .before .before .before .before .before .args .j) 2048) (c .before .before .before .before .before .before .before .before .before .before .before .before .before .args .x) (c .before .before .before .before .before .before .before .before .before .before .before .before .before .args .y) (c .before .before .before .before .before .before .before .before .before .before .before .before .before .pre .0) refl (c .before .before .before .before .before .before .before .before .before .line-at .ensures) (c .before .before .before .before .before .before .before .before .line-at2 .ensures) refl
+returns-3 c =
+    let at-b = c .before .before .before in
+    let at-a = at-b .before .before .before in
+    let at-line-at = at-a .before .before .before in
+    let start = at-line-at .before .before .before .before in
+    none-3 _ _ _ _ _ _ (at-a .a .given .1) (at-b .b .given .1) (c .enum-told3 .given .1)
+    ∙ square-is (valueOf (now (start .args .rows)) (now (start .args .left)) (now (start .args .right))) (start .args .i)
+    (subℕ (start .args .j) 2048) (start .args .x) (start .args .y) (start .pre .0) refl (at-line-at .line-at .ensures)
+    (at-a .before .before .line-at2 .ensures) refl
 
 enum-known-d : tie.Need-enum-known-d
 enum-known-d c = search needs
@@ -51,7 +72,16 @@ enum-told-4 : tie.Need-enum-told-4
 enum-told-4 c = search needs
 
 returns-4 : tie.Need-returns-4
-returns-4 c = none-4 _ _ _ _ _ _ (c .before .before .before .before .before .before .before .before .before .a .given .1) (c .before .before .before .before .before .before .b .given .1) (c .before .before .before .c .given .1) (c .enum-told4 .given .1) ∙ square-is (valueOf (now (c .before .before .before .before .before .before .before .before .before .before .before .before .before .before .before .before .args .rows)) (now (c .before .before .before .before .before .before .before .before .before .before .before .before .before .before .before .before .args .left)) (now (c .before .before .before .before .before .before .before .before .before .before .before .before .before .before .before .before .args .right))) (c .before .before .before .before .before .before .before .before .before .before .before .before .before .before .before .before .args .i) (subℕ (c .before .before .before .before .before .before .before .before .before .before .before .before .before .before .before .before .args .j) 2048) (c .before .before .before .before .before .before .before .before .before .before .before .before .before .before .before .before .args .x) (c .before .before .before .before .before .before .before .before .before .before .before .before .before .before .before .before .args .y) (c .before .before .before .before .before .before .before .before .before .before .before .before .before .before .before .before .pre .0) refl (c .before .before .before .before .before .before .before .before .before .before .before .before .line-at .ensures) (c .before .before .before .before .before .before .before .before .before .before .before .line-at2 .ensures) refl
+returns-4 c =
+    let at-c = c .before .before .before in
+    let at-b = at-c .before .before .before in
+    let at-a = at-b .before .before .before in
+    let at-line-at = at-a .before .before .before in
+    let start = at-line-at .before .before .before .before in
+    none-4 _ _ _ _ _ _ (at-a .a .given .1) (at-b .b .given .1) (at-c .c .given .1) (c .enum-told4 .given .1)
+    ∙ square-is (valueOf (now (start .args .rows)) (now (start .args .left)) (now (start .args .right))) (start .args .i)
+    (subℕ (start .args .j) 2048) (start .args .x) (start .args .y) (start .pre .0) refl (at-line-at .line-at .ensures)
+    (at-a .before .before .line-at2 .ensures) refl
 
 sub-line-at : tie.Need-sub-line-at
 sub-line-at c = search needs
@@ -75,7 +105,19 @@ terms-requires : tie.Need-terms-requires
 terms-requires c κs = search needs
 
 returns-5 : tie.Need-returns-5
-returns-5 c = rw (c .terms .ensures, c .before .coefficients .ensures, c .before .before .frame .ensures) (whole _ _ _ _ _ _ (c .before .before .before .before .before .before .before .before .before .before .before .before .before .before .before .a .given .1) (c .before .before .before .before .before .before .before .before .before .before .before .before .b .given .1) (c .before .before .before .before .before .before .before .before .before .c .given .1) (c .before .before .before .before .before .before .d .given .1) ∙ square-is (valueOf (now (c .before .before .before .before .before .before .before .before .before .before .before .before .before .before .before .before .before .before .before .before .before .before .args .rows)) (now (c .before .before .before .before .before .before .before .before .before .before .before .before .before .before .before .before .before .before .before .before .before .before .args .left)) (now (c .before .before .before .before .before .before .before .before .before .before .before .before .before .before .before .before .before .before .before .before .before .before .args .right))) (c .before .before .before .before .before .before .before .before .before .before .before .before .before .before .before .before .before .before .before .before .before .before .args .i) (subℕ (c .before .before .before .before .before .before .before .before .before .before .before .before .before .before .before .before .before .before .before .before .before .before .args .j) 2048) (c .before .before .before .before .before .before .before .before .before .before .before .before .before .before .before .before .before .before .before .before .before .before .args .x) (c .before .before .before .before .before .before .before .before .before .before .before .before .before .before .before .before .before .before .before .before .before .before .args .y) (c .before .before .before .before .before .before .before .before .before .before .before .before .before .before .before .before .before .before .before .before .before .before .pre .0) (c .before .before .before .before .line-at3 .ensures) (c .before .before .before .before .before .before .before .before .before .before .before .before .before .before .before .before .before .before .line-at .ensures) (c .before .before .before .before .before .before .before .before .before .before .before .before .before .before .before .before .before .line-at2 .ensures) (c .before .before .before .line-at4 .ensures))
+returns-5 c =
+    let at-line-at4 = c .before .before .before in
+    let at-d = at-line-at4 .before .before .before in
+    let at-c = at-d .before .before .before in
+    let at-b = at-c .before .before .before in
+    let at-a = at-b .before .before .before in
+    let at-line-at = at-a .before .before .before in
+    let start = at-line-at .before .before .before .before in
+    rw (c .terms .ensures, c .before .coefficients .ensures, c .before .before .frame .ensures)
+    (whole _ _ _ _ _ _ (at-a .a .given .1) (at-b .b .given .1) (at-c .c .given .1) (at-d .d .given .1)
+    ∙ square-is (valueOf (now (start .args .rows)) (now (start .args .left)) (now (start .args .right))) (start .args .i)
+    (subℕ (start .args .j) 2048) (start .args .x) (start .args .y) (start .pre .0) (at-line-at4 .before .line-at3 .ensures)
+    (at-line-at .line-at .ensures) (at-a .before .before .line-at2 .ensures) (at-line-at4 .line-at4 .ensures))
 
 pub in-square-spec : {M : Type 1} → statement M
 in-square-spec =

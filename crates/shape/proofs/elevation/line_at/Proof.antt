@@ -19,13 +19,24 @@ line-requires : tie.Need-line-requires
 line-requires c κs = search needs
 
 returns : tie.Need-returns
-returns c = c .line .ensures ∙ rw (c .before .row .ensures .0) (line-held (now (c .before .before .before .before .before .before .before .args .rows)) (now (c .before .before .before .before .before .before .before .args .left)) (now (c .before .before .before .before .before .before .before .args .right)) (c .before .before .before .before .before .before .before .args .i) _ (c .before .before .before .if1 .taken) (c .before .before .if2 .taken))
+returns c =
+    let at-if1 = c .before .before .before in
+    let start = at-if1 .before .before .before .before in
+    c .line .ensures
+    ∙ rw (c .before .row .ensures .0)
+    (line-held (now (start .args .rows)) (now (start .args .left)) (now (start .args .right)) (start .args .i) _ (at-if1 .if1 .taken)
+    (c .before .before .if2 .taken))
 
 returns-2 : tie.Need-returns-2
-returns-2 c = line-past (now (c .before .before .before .before .before .args .rows)) (now (c .before .before .before .before .before .args .left)) (now (c .before .before .before .before .before .args .right)) (c .before .before .before .before .before .args .i) _ (c .before .if1 .taken) (c .if2 .left)
+returns-2 c =
+    let start = c .before .before .before .before .before in
+    line-past (now (start .args .rows)) (now (start .args .left)) (now (start .args .right)) (start .args .i) _ (c .before .if1 .taken)
+    (c .if2 .left)
 
 returns-3 : tie.Need-returns-3
-returns-3 c = line-below (now (c .before .before .before .before .args .rows)) (now (c .before .before .before .before .args .left)) (now (c .before .before .before .before .args .right)) (c .before .before .before .before .args .i) _ (c .if1 .left)
+returns-3 c =
+    let start = c .before .before .before .before in
+    line-below (now (start .args .rows)) (now (start .args .left)) (now (start .args .right)) (start .args .i) _ (c .if1 .left)
 
 pub line-at-spec : {M : Type 1} → statement M
 line-at-spec =

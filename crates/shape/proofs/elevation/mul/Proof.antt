@@ -55,7 +55,30 @@ entry-requires-16 c κs = search needs
 
 returns : tie.Need-returns
 unfolding mulOf gather
-returns c = rw (c .entry16 .ensures, c .before .entry15 .ensures, c .before .before .entry14 .ensures, c .before .before .before .entry13 .ensures, c .before .before .before .before .entry12 .ensures, c .before .before .before .before .before .entry11 .ensures, c .before .before .before .before .before .before .entry10 .ensures, c .before .before .before .before .before .before .before .entry9 .ensures, c .before .before .before .before .before .before .before .before .entry8 .ensures, c .before .before .before .before .before .before .before .before .before .entry7 .ensures, c .before .before .before .before .before .before .before .before .before .before .entry6 .ensures, c .before .before .before .before .before .before .before .before .before .before .before .entry5 .ensures, c .before .before .before .before .before .before .before .before .before .before .before .before .entry4 .ensures, c .before .before .before .before .before .before .before .before .before .before .before .before .before .entry3 .ensures, c .before .before .before .before .before .before .before .before .before .before .before .before .before .before .entry2 .ensures, c .before .before .before .before .before .before .before .before .before .before .before .before .before .before .before .entry .ensures)
+returns c =
+    let at-entry13 = c .before .before .before in
+    let at-entry10 = at-entry13 .before .before .before in
+    let at-entry7 = at-entry10 .before .before .before in
+    let at-entry4 = at-entry7 .before .before .before in
+    let at-entry = at-entry4 .before .before .before in
+    rw (
+      c .entry16 .ensures,
+      c .before .entry15 .ensures,
+      c .before .before .entry14 .ensures,
+      at-entry13 .entry13 .ensures,
+      at-entry13 .before .entry12 .ensures,
+      at-entry13 .before .before .entry11 .ensures,
+      at-entry10 .entry10 .ensures,
+      at-entry10 .before .entry9 .ensures,
+      at-entry10 .before .before .entry8 .ensures,
+      at-entry7 .entry7 .ensures,
+      at-entry7 .before .entry6 .ensures,
+      at-entry7 .before .before .entry5 .ensures,
+      at-entry4 .entry4 .ensures,
+      at-entry4 .before .entry3 .ensures,
+      at-entry4 .before .before .entry2 .ensures,
+      at-entry .entry .ensures,
+    )
 
 pub mul-spec : {M : Type 1} → statement M
 mul-spec =

@@ -25,7 +25,11 @@ in-row-requires-2 : tie.Need-in-row-requires-2
 in-row-requires-2 c κs = search needs
 
 returns-2 : tie.Need-returns-2
-returns-2 c = tried-below _ (c .before .before .before .before .before .before .before .before .before .before .args .row .line) _ (omega (arith, c .before .before .before .before .before .before .before .before .before .before .pre)) (c .before .before .before .before .before .if1 .taken) (sym (c .before .before .before .before .in-row .ensures) ∙ c .before .before .enum-told .given .1) (c .in-row2 .ensures)
+returns-2 c =
+    let at-in-row = c .before .before .before .before in
+    let start = at-in-row .before .before .before .before .before .before in
+    tried-below _ (start .args .row .line) _ (omega (arith, start .pre)) (at-in-row .before .if1 .taken)
+    (sym (at-in-row .in-row .ensures) ∙ c .before .before .enum-told .given .1) (c .in-row2 .ensures)
 
 in-row-requires-3 : tie.Need-in-row-requires-3
 in-row-requires-3 c κs = search needs

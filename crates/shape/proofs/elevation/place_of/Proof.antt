@@ -17,20 +17,30 @@ count64-requires-2 : tie.Need-count64-requires-2
 count64-requires-2 c κs = search needs
 
 add-t6 : tie.Need-add-t6
-add-t6 c = let h : c .before .count64 .result ≤ 1024 = rw (c .before .count64 .ensures, c .before .before .floor64 .ensures) (above-few (c .before .before .before .args .at) (c .before .before .before .pre)) in omega arith
+add-t6 c =
+    let start = c .before .before .before in
+    let h : c .before .count64 .result ≤ 1024 =
+    rw (c .before .count64 .ensures, c .before .before .floor64 .ensures) (above-few (start .args .at) (start .pre)) in
+    omega arith
 
 sub-t7 : tie.Need-sub-t7
-sub-t7 c = let h : c .count642 .result ≤ 1024 = rw (c .count642 .ensures, c .before .before .floor64 .ensures) (below-few (c .before .before .before .args .at) (c .before .before .before .pre)) in omega arith
+sub-t7 c =
+    let start = c .before .before .before in
+    let h : c .count642 .result ≤ 1024 =
+    rw (c .count642 .ensures, c .before .before .floor64 .ensures) (below-few (start .args .at) (start .pre)) in
+    omega arith
 
 returns : tie.Need-returns
 returns c =
-    let h : c .before .count64 .result ≤ 1024 = rw (c .before .count64 .ensures, c .before .before .floor64 .ensures) (above-few (c .before .before .before .args .at) (c .before .before .before .pre)) in
-    let k : c .count642 .result ≤ 1024 = rw (c .count642 .ensures, c .before .before .floor64 .ensures) (below-few (c .before .before .before .args .at) (c .before .before .before .pre)) in
+    let at-floor64 = c .before .before in
+    let start = at-floor64 .before in
+    let h : c .before .count64 .result ≤ 1024 =
+    rw (c .before .count64 .ensures, at-floor64 .floor64 .ensures) (above-few (start .args .at) (start .pre)) in
+    let k : c .count642 .result ≤ 1024 = rw (c .count642 .ensures, at-floor64 .floor64 .ensures) (below-few (start .args .at) (start .pre)) in
     record {
-      line =
-          rw (c .count642 .ensures, c .before .count64 .ensures, c .before .before .floor64 .ensures)
-          (line-of (floored (c .before .before .before .args .at)) (above-few (c .before .before .before .args .at) (c .before .before .before .pre)) (below-few (c .before .before .before .args .at) (c .before .before .before .pre)));
-      part = rw (c .before .before .floor64 .ensures);
+      line = rw (c .count642 .ensures, c .before .count64 .ensures, at-floor64 .floor64 .ensures)
+          (line-of (floored (start .args .at)) (above-few (start .args .at) (start .pre)) (below-few (start .args .at) (start .pre)));
+      part = rw (at-floor64 .floor64 .ensures);
       low = omega arith;
       high = omega arith;
     }

@@ -1,6 +1,7 @@
 -- `shape::elevation::row` meets its contract, word by word. Assumes nothing.
-use Prim.Native.Nat.{_*_}
+use Prim.Native.Nat.{_+_, _*_}
 use native.Mathlib.Nat.{add-zero}
+use native.Mathlib.Omega.{arith}
 use Rattle.shape.specs.Elevation.{rowOf}
 use Rattle.shape.specs.Lists.{wordOf}
 use borrow.Author.Needs.{needs}
@@ -78,7 +79,26 @@ wide-requires-4 c κs = search needs
 
 returns : tie.Need-returns
 unfolding rowOf wordOf
-returns c = (rw (add-zero (6 * c .before .before .before .before .before .before .before .before .before .before .before .before .args .i), c .wide4 .ensures .0, c .before .before .wide3 .ensures .0, c .before .before .before .before .wide2 .ensures .0, c .before .before .before .before .before .before .wide .ensures .0, c .before .before .before .before .before .before .before .before .from-bits64 .ensures), c .before .before .before .before .before .before .wide .ensures .1, c .before .before .wide3 .ensures .1)
+returns c =
+    let at-wide3 = c .before .before in
+    let at-wide2 = at-wide3 .before .before in
+    let at-wide = at-wide2 .before .before in
+    let at-bits = at-wide .before .before in
+    let at-shared-slice-known = at-bits .before .before .before in
+    let start = at-shared-slice-known .before in
+    let i = start .args .i in
+    let words = at-shared-slice-known .shared-slice-known .given in (
+      rw (
+        add-zero (6 * i),
+        c .wide4 .ensures,
+        at-wide3 .wide3 .ensures,
+        at-wide2 .wide2 .ensures,
+        at-wide .wide .ensures,
+        at-bits .from-bits64 .ensures,
+      ),
+      omega (arith, at-wide .wide .ensures, words (6 * i + 2)),
+      omega (arith, at-wide3 .wide3 .ensures, words (6 * i + 4)),
+    )
 
 pub row-spec : {M : Type 1} → statement M
 row-spec =

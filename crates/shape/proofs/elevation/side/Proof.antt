@@ -15,10 +15,14 @@ shared-slice-read-t10 : tie.Need-shared-slice-read-t10
 shared-slice-read-t10 c = search needs
 
 returns : tie.Need-returns
-returns c = held (now (c .before .before .before .before .before .args .xs)) (c .before .before .before .before .before .args .run) (c .before .before .before .before .before .args .n) (c .before .before .if1 .taken) (c .before .if2 .taken)
+returns c =
+    let start = c .before .before .before .before .before in
+    held (now (start .args .xs)) (start .args .run) (start .args .n) (c .before .before .if1 .taken) (c .before .if2 .taken)
 
 returns-2 : tie.Need-returns-2
-returns-2 c = short-list (now (c .before .before .before .before .args .xs)) (c .before .before .before .before .args .run) (c .before .before .before .before .args .n) (c .if2 .left)
+returns-2 c =
+    let start = c .before .before .before .before in
+    short-list (now (start .args .xs)) (start .args .run) (start .args .n) (c .if2 .left)
 
 returns-3 : tie.Need-returns-3
 returns-3 c = short-run (now (c .before .before .before .args .xs)) (c .before .before .before .args .run) (c .before .before .before .args .n) (c .if1 .left)

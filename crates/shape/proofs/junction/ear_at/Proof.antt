@@ -19,8 +19,8 @@ shared-slice-read-wide c = search needs
 wide-requires : tie.Need-wide-requires
 wide-requires c κs = search needs
 
-point-requires : tie.Need-point-requires
-point-requires c κs = let w = c .before .before .before .before .pre .1 in omega (arith, w (3 * c .before .before .before .before .args .k) (omega arith), c .wide .ensures)
+whole-point-requires : tie.Need-whole-point-requires
+whole-point-requires c κs = let w = c .before .before .before .before .pre .1 in omega (arith, w (3 * c .before .before .before .before .args .k) (omega arith), c .wide .ensures)
 
 add-wide : tie.Need-add-wide
 add-wide c = search needs
@@ -34,8 +34,11 @@ shared-slice-read-wide-2 c = search needs
 wide-requires-2 : tie.Need-wide-requires-2
 wide-requires-2 c κs = search needs
 
-point-requires-2 : tie.Need-point-requires-2
-point-requires-2 c κs = let w = c .before .before .before .before .before .before .before .pre .1 in omega (arith, w (3 * c .before .before .before .before .before .before .before .args .k + 1) (omega arith), c .wide2 .ensures)
+whole-point-requires-2 : tie.Need-whole-point-requires-2
+whole-point-requires-2 c κs =
+    let start = c .before .before .before .before .before .before .before in
+    let w = start .pre .1 in
+    omega (arith, w (3 * start .args .k + 1) (omega arith), c .wide2 .ensures)
 
 add-wide-2 : tie.Need-add-wide-2
 add-wide-2 c = search needs
@@ -49,14 +52,28 @@ shared-slice-read-wide-3 c = search needs
 wide-requires-3 : tie.Need-wide-requires-3
 wide-requires-3 c κs = search needs
 
-point-requires-3 : tie.Need-point-requires-3
-point-requires-3 c κs = let w = c .before .before .before .before .before .before .before .before .before .before .pre .1 in omega (arith, w (3 * c .before .before .before .before .before .before .before .before .before .before .args .k + 2) (omega arith), c .wide3 .ensures)
+whole-point-requires-3 : tie.Need-whole-point-requires-3
+whole-point-requires-3 c κs =
+    let at-whole-point = c .before .before .before .before .before in
+    let start = at-whole-point .before .before .before .before .before in
+    let w = start .pre .1 in
+    omega (arith, w (3 * start .args .k + 2) (omega arith), c .wide3 .ensures)
 
 parts-requires : tie.Need-parts-requires
 parts-requires c κs = search needs
 
 returns : tie.Need-returns
-returns c = let a = c .before .before .before .before .before .before .before .before .before .before .before .before .args in (ear-cut (a .step) (now (a .ring)) (now (a .ears)) (a .k) _ _ _ _ (c .parts .ensures .0) (rw (c .before .before .before .before .before .before .before .before .wide .ensures) at (c .before .before .before .before .before .before .before .point .ensures)) (rw (c .before .before .before .before .before .wide2 .ensures) at (c .before .before .before .before .point2 .ensures)) (rw (c .before .before .wide3 .ensures) at (c .before .point3 .ensures)), c .parts .ensures .1)
+returns c =
+    let at-whole-point2 = c .before .before .before .before in
+    let at-whole-point = at-whole-point2 .before .before .before in
+    let start = at-whole-point .before .before .before .before .before in
+    let a = start .args in (
+      ear-cut (a .step) (now (a .ring)) (now (a .ears)) (a .k) _ _ _ _ (c .parts .ensures .0)
+          (rw (at-whole-point .before .wide .ensures) at (at-whole-point .whole-point .ensures))
+          (rw (at-whole-point2 .before .wide2 .ensures) at (at-whole-point2 .whole-point2 .ensures))
+          (rw (c .before .before .wide3 .ensures) at (c .before .whole-point3 .ensures)),
+      c .parts .ensures .1,
+    )
 
 pub ear-at-spec : {M : Type 1} → statement M
 ear-at-spec =
@@ -66,16 +83,16 @@ ear-at-spec =
     mul-wide
     shared-slice-read-wide
     wide-requires
-    point-requires
+    whole-point-requires
     add-wide
     mul-wide-2
     shared-slice-read-wide-2
     wide-requires-2
-    point-requires-2
+    whole-point-requires-2
     add-wide-2
     mul-wide-3
     shared-slice-read-wide-3
     wide-requires-3
-    point-requires-3
+    whole-point-requires-3
     parts-requires
     returns)

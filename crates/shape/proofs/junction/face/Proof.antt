@@ -22,11 +22,24 @@ mul-requires c κs = search needs
 
 returns : tie.Need-returns
 unfolding upVector
-returns c = let a = c .before .before .before .before .before .before .before .args in let e = rw (c .before .before .before .before .cross .ensures, c .before .before .before .before .before .sub2 .ensures, c .before .before .before .before .before .before .sub .ensures) at (c .before .before .before .normalize-or .ensures) in rw (c .mul .ensures) (face-down (a .a) (a .b) (a .c) _ e (c .before .if1 .taken))
+returns c =
+    let at-normalize-or = c .before .before .before in
+    let at-sub = at-normalize-or .before .before .before in
+    let start = at-sub .before in
+    let a = start .args in
+    let e = rw (at-normalize-or .before .cross .ensures, at-normalize-or .before .before .sub2 .ensures, at-sub .sub .ensures) at
+    (at-normalize-or .normalize-or .ensures) in
+    rw (c .mul .ensures) (face-down (a .a) (a .b) (a .c) _ e (c .before .if1 .taken))
 
 returns-2 : tie.Need-returns-2
 unfolding upVector
-returns-2 c = let a = c .before .before .before .before .before .before .args in let e = rw (c .before .before .before .cross .ensures, c .before .before .before .before .sub2 .ensures, c .before .before .before .before .before .sub .ensures) at (c .before .before .normalize-or .ensures) in face-up (a .a) (a .b) (a .c) _ e (c .if1 .left)
+returns-2 c =
+    let at-cross = c .before .before .before in
+    let start = at-cross .before .before .before in
+    let a = start .args in
+    let e = rw (at-cross .cross .ensures, at-cross .before .sub2 .ensures, at-cross .before .before .sub .ensures) at
+    (c .before .before .normalize-or .ensures) in
+    face-up (a .a) (a .b) (a .c) _ e (c .if1 .left)
 
 pub face-spec : {M : Type 1} → statement M
 face-spec =

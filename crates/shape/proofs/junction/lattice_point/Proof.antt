@@ -33,7 +33,20 @@ add-requires-2 c κs = search needs
 
 returns : tie.Need-returns
 unfolding lattice
-returns c = rw (c .add2 .ensures, c .before .mul2 .ensures, c .before .before .sub2 .ensures, c .before .before .before .add .ensures, c .before .before .before .before .mul .ensures, c .before .before .before .before .before .sub .ensures, c .before .before .before .before .before .before .single3 .ensures, c .before .before .before .before .before .before .before .single2 .ensures, c .before .before .before .before .before .before .before .before .single .ensures)
+returns c =
+    let at-add = c .before .before .before in
+    let at-single3 = at-add .before .before .before in
+    rw (
+      c .add2 .ensures,
+      c .before .mul2 .ensures,
+      c .before .before .sub2 .ensures,
+      at-add .add .ensures,
+      at-add .before .mul .ensures,
+      at-add .before .before .sub .ensures,
+      at-single3 .single3 .ensures,
+      at-single3 .before .single2 .ensures,
+      at-single3 .before .before .single .ensures,
+    )
 
 pub lattice-point-spec : {M : Type 1} → statement M
 lattice-point-spec =

@@ -25,8 +25,8 @@ locate-requires c κs = search needs
 height-in-requires : tie.Need-height-in-requires
 height-in-requires c κs = search needs
 
-stand-requires : tie.Need-stand-requires
-stand-requires c κs = search needs
+raised-to-requires : tie.Need-raised-to-requires
+raised-to-requires c κs = search needs
 
 returns : tie.Need-returns
 unfolding liftOf
@@ -34,7 +34,18 @@ returns c = rw (c .enum-told .given .1) (c .before .before .lattice-point .ensur
 
 returns-2 : tie.Need-returns-2
 unfolding liftOf
-returns-2 c = rw (c .before .before .before .before .before .before .grid .given .1, ← (c .before .before .before .before .before .before .before .before .lattice-point .ensures), c .stand .ensures, c .before .height-in .ensures, c .before .before .locate .ensures, c .before .before .before .widen2 .ensures, c .before .before .before .before .widen .ensures)
+returns-2 c =
+    let at-widen2 = c .before .before .before in
+    let at-grid = at-widen2 .before .before .before in
+    rw (
+      at-grid .grid .given .1,
+      ← (at-grid .before .before .lattice-point .ensures),
+      c .raised-to .ensures,
+      c .before .height-in .ensures,
+      c .before .before .locate .ensures,
+      at-widen2 .widen2 .ensures,
+      at-widen2 .before .widen .ensures,
+    )
 
 pub lifted-spec : {M : Type 1} → statement M
 lifted-spec =
@@ -47,6 +58,6 @@ lifted-spec =
     widen-requires-2
     locate-requires
     height-in-requires
-    stand-requires
+    raised-to-requires
     returns
     returns-2)

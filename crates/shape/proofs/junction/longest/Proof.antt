@@ -24,7 +24,16 @@ max32-requires-3 c κs = search needs
 
 returns : tie.Need-returns
 unfolding longestOf
-returns c = rw (c .max323 .ensures, c .before .distance-to3 .ensures, c .before .before .max322 .ensures, c .before .before .before .distance-to2 .ensures, c .before .before .before .before .max32 .ensures, c .before .before .before .before .before .distance-to .ensures)
+returns c =
+    let at-distance-to2 = c .before .before .before in
+    rw (
+      c .max323 .ensures,
+      c .before .distance-to3 .ensures,
+      c .before .before .max322 .ensures,
+      at-distance-to2 .distance-to2 .ensures,
+      at-distance-to2 .before .max32 .ensures,
+      at-distance-to2 .before .before .distance-to .ensures,
+    )
 
 pub longest-spec : {M : Type 1} → statement M
 longest-spec =

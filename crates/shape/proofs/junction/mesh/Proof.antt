@@ -1,54 +1,53 @@
--- `shape::junction::mesh` meets its contract, by the test that led to each return. Assumes nothing.
-use mathlib.Core.Path.{sym, _∙_}
+-- `shape::junction::mesh` meets its contract: what the check of the input told decides. Assumes nothing.
+use mathlib.Core.Path.{_∙_}
 use mathlib.Core.List.{[]}
 use denote.Ref.{now}
-use lib.ListN.{length}
-use Rattle.shape.specs.Refusal.{numberOf, placeOf}
 use Rattle.shape.specs.Lists.{meshLists}
 use Rattle.shape.specs.JunctionMesh.{ground}
-use Rattle.shape.specs.Laws.JunctionMesh.{ground-stays, ring-long, grid-long, ring-uneven, grid-ragged, ground-checked}
-use Rattle.shape.proofs.Surveys.{says-long, says-ragged, says-widest, limits}
+use Rattle.shape.specs.Laws.Refusal.{none-told}
+use Rattle.shape.specs.Laws.JunctionMesh.{ground-stays, ground-turned-back, ground-goes-on}
+use Rattle.shape.proofs.Surveys.{input-seen, input-limits}
 use borrow.Author.Needs.{needs}
 use Rattle.shape.proofs.junction.mesh.Statement.{statement}
 use Rattle.shape.proofs.junction.mesh.Tie as tie
 
-mul-if1 : tie.Need-mul-if1
-mul-if1 c = search needs
+check-grid-requires : tie.Need-check-grid-requires
+check-grid-requires c κs = search needs
 
-returns : tie.Need-returns
-unfolding numberOf placeOf
-returns c = let a = c .before .before .before .before .before .before .before .before .args in let g = ground (now (a .ring)) (a .grid) (now (a .rows)) (now (a .left)) (now (a .right)) in let m = meshLists (now (a .vertices)) (now (a .normals)) (now (a .indices)) [] in ground-stays g m _ (ring-long g m (c .if1 .taken))
+input-fault-requires : tie.Need-input-fault-requires
+input-fault-requires c κs = search needs
 
-survey-requires : tie.Need-survey-requires
-survey-requires c κs = search needs
+enum-known-r : tie.Need-enum-known-r
+enum-known-r c = search needs
 
 enum-told : tie.Need-enum-told
 enum-told c = search needs
 
-enum-told-2 : tie.Need-enum-told-2
-enum-told-2 c = search needs
-
-returns-2 : tie.Need-returns-2
-unfolding numberOf placeOf
-returns-2 c = let a = c .before .before .before .before .before .before .before .before .before .before .before .before .args in let g = ground (now (a .ring)) (a .grid) (now (a .rows)) (now (a .left)) (now (a .right)) in let m = meshLists (now (a .vertices)) (now (a .normals)) (now (a .indices)) [] in let s = says-ragged (now (a .rows)) (length (now (a .left))) (length (now (a .right))) (sym (c .before .enum-told2 .given .1) ∙ c .before .before .before .survey .ensures) in ground-stays g m _ (ring-uneven g m (c .before .before .before .before .if1 .left) (s .0) (c .if2 .taken))
-
-enum-known-seen : tie.Need-enum-known-seen
-enum-known-seen c = search needs
-
-returns-3 : tie.Need-returns-3
-unfolding numberOf placeOf
-returns-3 c = let a = c .before .before .before .before .before .before .before .before .before .before .before .before .before .args in let g = ground (now (a .ring)) (a .grid) (now (a .rows)) (now (a .left)) (now (a .right)) in let m = meshLists (now (a .vertices)) (now (a .normals)) (now (a .indices)) [] in let s = says-widest (now (a .rows)) (length (now (a .left))) (length (now (a .right))) _ (sym (c .before .before .seen .given .1) ∙ c .before .before .before .before .survey .ensures) in ground-stays g m _ (ring-uneven g m (c .before .before .before .before .before .if1 .left) (s .0 .0) (c .if3 .taken))
+widest-requires : tie.Need-widest-requires
+widest-requires c κs = search needs
 
 mesh-checked-requires : tie.Need-mesh-checked-requires
-mesh-checked-requires c κs = let a = c .before .before .before .before .before .before .before .before .before .before .before .before .before .before .before .before .args in let g = ground (now (a .ring)) (a .grid) (now (a .rows)) (now (a .left)) (now (a .right)) in let m = meshLists (now (a .vertices)) (now (a .normals)) (now (a .indices)) [] in let s = says-widest (now (a .rows)) (length (now (a .left))) (length (now (a .right))) _ (sym (c .before .before .before .before .before .seen .given .1) ∙ c .before .before .before .before .before .before .before .survey .ensures) in (limits (now (a .rows)) _ (s .0 .0) (s .1), c .before .before .before .before .before .before .before .before .if1 .left)
+mesh-checked-requires c κs =
+    let at-widest = c .before .before .before in
+    let at-fault = at-widest .before .before .before in
+    let at-grid = at-fault .before in
+    let start = at-grid .before .before .before .before .before .before .before .before in
+    let a = start .args in
+    let g = ground (now (a .ring)) (a .grid) (now (a .rows)) (now (a .left)) (now (a .right)) in
+    let seen = at-grid .check-grid .ensures in
+    let l = input-limits g seen (none-told (at-fault .input-fault .ensures ∙ input-seen g seen) (at-widest .before .enum-told .given .1)) in
+    (rw (at-widest .widest .ensures) (l .0), l .1)
 
-returns-4 : tie.Need-returns-4
-unfolding numberOf placeOf
-returns-4 c = let a = c .before .before .before .before .before .before .before .before .before .before .before .args in let g = ground (now (a .ring)) (a .grid) (now (a .rows)) (now (a .left)) (now (a .right)) in let m = meshLists (now (a .vertices)) (now (a .normals)) (now (a .indices)) [] in let s = says-long (now (a .rows)) (length (now (a .left))) (length (now (a .right))) (sym (c .enum-told .given .1) ∙ c .before .before .survey .ensures) in ground-stays g m _ (grid-long g m (c .before .before .before .if1 .left) s)
-
-returns-5 : tie.Need-returns-5
-unfolding numberOf placeOf
-returns-5 c = let a = c .before .before .before .before .before .before .before .before .before .before .before .before .args in let g = ground (now (a .ring)) (a .grid) (now (a .rows)) (now (a .left)) (now (a .right)) in let m = meshLists (now (a .vertices)) (now (a .normals)) (now (a .indices)) [] in let s = says-ragged (now (a .rows)) (length (now (a .left))) (length (now (a .right))) (sym (c .before .enum-told2 .given .1) ∙ c .before .before .before .survey .ensures) in ground-stays g m _ (grid-ragged g m (c .before .before .before .before .if1 .left) (s .0) (c .if2 .left) (s .1))
+returns : tie.Need-returns
+returns c =
+    let at-fault = c .before .before .before in
+    let at-grid = at-fault .before in
+    let start = at-grid .before .before .before .before .before .before .before .before in
+    let a = start .args in
+    let g = ground (now (a .ring)) (a .grid) (now (a .rows)) (now (a .left)) (now (a .right)) in
+    let m = meshLists (now (a .vertices)) (now (a .normals)) (now (a .indices)) [] in
+    ground-stays g m _
+    (ground-turned-back g m (at-fault .input-fault .ensures ∙ input-seen g (at-grid .check-grid .ensures)) (c .before .r .given .1))
 
 same-length : tie.Need-same-length
 same-length c = search needs
@@ -59,25 +58,31 @@ same-length-2 c = search needs
 same-length-3 : tie.Need-same-length-3
 same-length-3 c = search needs
 
-returns-6 : tie.Need-returns-6
-returns-6 c = let a = c .before .before .before .before .before .before .before .before .before .before .before .before .before .before .before .before .before .before .before .before .before .before .before .args in let g = ground (now (a .ring)) (a .grid) (now (a .rows)) (now (a .left)) (now (a .right)) in let m = meshLists (now (a .vertices)) (now (a .normals)) (now (a .indices)) [] in let s = says-widest (now (a .rows)) (length (now (a .left))) (length (now (a .right))) _ (sym (c .before .before .before .before .before .before .before .before .before .before .before .before .seen .given .1) ∙ c .before .before .before .before .before .before .before .before .before .before .before .before .before .before .survey .ensures) in rw (← (ground-checked g m (c .before .before .before .before .before .before .before .before .before .before .before .before .before .before .before .if1 .left) (s .0 .0) (c .before .before .before .before .before .before .before .before .before .before .if3 .left) (s .0 .1))) (c .before .before .before .before .before .before .mesh-checked .ensures)
+returns-2 : tie.Need-returns-2
+returns-2 c =
+    let at-mesh = c .before .before .before .before .before .before in
+    let at-told = at-mesh .before .before .before .before .before in
+    let at-fault = at-told .before .before in
+    let at-grid = at-fault .before in
+    let start = at-grid .before .before .before .before .before .before .before .before in
+    let a = start .args in
+    let g = ground (now (a .ring)) (a .grid) (now (a .rows)) (now (a .left)) (now (a .right)) in
+    let m = meshLists (now (a .vertices)) (now (a .normals)) (now (a .indices)) [] in
+    let told = at-fault .input-fault .ensures ∙ input-seen g (at-grid .check-grid .ensures) in
+    rw (← (ground-goes-on g m told (at-told .enum-told .given .1))) (at-mesh .mesh-checked .ensures)
 
 pub mesh-spec : {M : Type 1} → statement M
 mesh-spec =
     tie.close
     (tie.spec
-    mul-if1
-    returns
-    survey-requires
+    check-grid-requires
+    input-fault-requires
+    enum-known-r
     enum-told
-    enum-told-2
-    returns-2
-    enum-known-seen
-    returns-3
+    widest-requires
     mesh-checked-requires
-    returns-4
-    returns-5
+    returns
     same-length
     same-length-2
     same-length-3
-    returns-6)
+    returns-2)

@@ -23,16 +23,36 @@ clip-requires : tie.Need-clip-requires
 clip-requires c κs = search needs
 
 array-share-prefix-memory : tie.Need-array-share-prefix-memory
-array-share-prefix-memory c = let a = c .before .before .before .before .before .before .before .before .before .before .args in let p = c .before .clip .ensures in omega (arith, p .ends, ears-few (now (a .ring)) (c .before .before .before .before .before .before .before .before .before .before .pre .1), put-length p, length-replicate {A = ℕ} 3072 0)
+array-share-prefix-memory c =
+    let at-slice-known = c .before .before .before .before .before in
+    let start = at-slice-known .before .before .before .before .before in
+    let a = start .args in
+    let p = c .before .clip .ensures in
+    omega (arith, p .ends, ears-few (now (a .ring)) (start .pre .1), put-length p, length-replicate {A = ℕ} 3072 0)
 
 slice-aggregate-ears : tie.Need-slice-aggregate-ears
-slice-aggregate-ears c = let a = c .before .before .before .before .before .before .before .before .before .before .before .args in let p = c .before .before .clip .ensures in sym (length-take-le (c .before .before .clip .result) (c .before .before .clip .last .1 .0) (omega (arith, p .ends, ears-few (now (a .ring)) (c .before .before .before .before .before .before .before .before .before .before .before .pre .1), put-length p, length-replicate {A = ℕ} 3072 0)))
+slice-aggregate-ears c =
+    let at-memory = c .before .before .before in
+    let start = at-memory .before .before .before .before .before .before .before .before in
+    let a = start .args in
+    let p = c .before .before .clip .ensures in
+    sym (length-take-le (c .before .before .clip .result) (c .before .before .clip .last .1 .0)
+    (omega (arith, p .ends, ears-few (now (a .ring)) (start .pre .1), put-length p, length-replicate {A = ℕ} 3072 0)))
 
-step-of-requires : tie.Need-step-of-requires
-step-of-requires c κs = search needs
+spacing-of-requires : tie.Need-spacing-of-requires
+spacing-of-requires c κs = search needs
 
 count-vertices-requires : tie.Need-count-vertices-requires
-count-vertices-requires c κs = let a = c .before .before .before .before .before .before .before .before .before .before .before .before .args in let ring = now (a .ring) in let p = c .before .before .before .clip .ensures in let few = ears-few ring (c .before .before .before .before .before .before .before .before .before .before .before .before .pre .1) in let e : take (c .before .before .before .clip .result) (c .before .before .before .clip .last .1 .0) ≡ earsOf ring = put-front p (omega (arith, p .ends, few, length-replicate {A = ℕ} 3072 0)) in rw e (omega (arith, few), ears-within ring)
+count-vertices-requires c κs =
+    let at-clip = c .before .before .before in
+    let start = at-clip .before .before .before .before .before .before .before .before .before in
+    let a = start .args in
+    let ring = now (a .ring) in
+    let p = at-clip .clip .ensures in
+    let few = ears-few ring (start .pre .1) in
+    let e : take (at-clip .clip .result) (at-clip .clip .last .1 .0) ≡ earsOf ring =
+    put-front p (omega (arith, p .ends, few, length-replicate {A = ℕ} 3072 0)) in
+    rw e (omega (arith, few), ears-within ring)
 
 ground-lengths-requires : tie.Need-ground-lengths-requires
 ground-lengths-requires c κs = search needs
@@ -59,10 +79,11 @@ put-ears-requires c κs =
     let ring = now (a .ring) in
     let p = clip .clip .ensures in
     let few = ears-few ring (start .pre .1) in
-    let e : take (clip .clip .result) (clip .clip .last .1 .0) ≡ earsOf ring = put-front p (omega (arith, p .ends, few, length-replicate {A = ℕ} 3072 0)) in
+    let e : take (clip .clip .result) (clip .clip .last .1 .0) ≡ earsOf ring =
+    put-front p (omega (arith, p .ends, few, length-replicate {A = ℕ} 3072 0)) in
     let g = ground ring (a .grid) (now (a .rows)) (now (a .left)) (now (a .right)) in
     let m = meshLists (now (a .vertices)) (now (a .normals)) (now (a .indices)) [] in
-    let k : many .count-vertices .result ≡ manyOf g = rw (step .step-of .ensures, e) at (many .count-vertices .ensures .0) in
+    let k : many .count-vertices .result ≡ manyOf g = rw (step .spacing-of .ensures, e) at (many .count-vertices .ensures .0) in
     let f = ground-fits g m _ _ _ k (lengths .ground-lengths .ensures) (room .room-fault .ensures) (told .enum-told .given .1) in
     rw e (start .pre .0, (ears-within ring, omega (arith, few, f .vertices, f .normals)))
 
@@ -79,10 +100,11 @@ count-up-requires c κs =
     let ring = now (a .ring) in
     let p = clip .clip .ensures in
     let few = ears-few ring (start .pre .1) in
-    let e : take (clip .clip .result) (clip .clip .last .1 .0) ≡ earsOf ring = put-front p (omega (arith, p .ends, few, length-replicate {A = ℕ} 3072 0)) in
+    let e : take (clip .clip .result) (clip .clip .last .1 .0) ≡ earsOf ring =
+    put-front p (omega (arith, p .ends, few, length-replicate {A = ℕ} 3072 0)) in
     let g = ground ring (a .grid) (now (a .rows)) (now (a .left)) (now (a .right)) in
     let m = meshLists (now (a .vertices)) (now (a .normals)) (now (a .indices)) [] in
-    let k : many .count-vertices .result ≡ manyOf g = rw (step .step-of .ensures, e) at (many .count-vertices .ensures .0) in
+    let k : many .count-vertices .result ≡ manyOf g = rw (step .spacing-of .ensures, e) at (many .count-vertices .ensures .0) in
     let f = ground-fits g m _ _ _ k (lengths .ground-lengths .ensures) (room .room-fault .ensures) (told .enum-told .given .1) in
     omega (arith, k, f .few-vertices, f .indices)
 
@@ -98,10 +120,11 @@ returns c =
     let ring = now (a .ring) in
     let p = clip .clip .ensures in
     let few = ears-few ring (start .pre .1) in
-    let e : take (clip .clip .result) (clip .clip .last .1 .0) ≡ earsOf ring = put-front p (omega (arith, p .ends, few, length-replicate {A = ℕ} 3072 0)) in
+    let e : take (clip .clip .result) (clip .clip .last .1 .0) ≡ earsOf ring =
+    put-front p (omega (arith, p .ends, few, length-replicate {A = ℕ} 3072 0)) in
     let g = ground ring (a .grid) (now (a .rows)) (now (a .left)) (now (a .right)) in
     let m = meshLists (now (a .vertices)) (now (a .normals)) (now (a .indices)) [] in
-    let k : many .count-vertices .result ≡ manyOf g = rw (step .step-of .ensures, e) at (many .count-vertices .ensures .0) in
+    let k : many .count-vertices .result ≡ manyOf g = rw (step .spacing-of .ensures, e) at (many .count-vertices .ensures .0) in
     ground-stays g m _ (ground-refused g m _ _ _ k (lengths .ground-lengths .ensures) (room .room-fault .ensures) (c .before .f .given .1))
 
 same-length : tie.Need-same-length
@@ -127,14 +150,16 @@ returns-2 c =
     let ring = now (a .ring) in
     let p = clip .clip .ensures in
     let few = ears-few ring (start .pre .1) in
-    let e : take (clip .clip .result) (clip .clip .last .1 .0) ≡ earsOf ring = put-front p (omega (arith, p .ends, few, length-replicate {A = ℕ} 3072 0)) in
+    let e : take (clip .clip .result) (clip .clip .last .1 .0) ≡ earsOf ring =
+    put-front p (omega (arith, p .ends, few, length-replicate {A = ℕ} 3072 0)) in
     let g = ground ring (a .grid) (now (a .rows)) (now (a .left)) (now (a .right)) in
     let m = meshLists (now (a .vertices)) (now (a .normals)) (now (a .indices)) [] in
-    let k : many .count-vertices .result ≡ manyOf g = rw (step .step-of .ensures, e) at (many .count-vertices .ensures .0) in
+    let k : many .count-vertices .result ≡ manyOf g = rw (step .spacing-of .ensures, e) at (many .count-vertices .ensures .0) in
     let x = put .put-ears .ensures in
     let f = ground-fits g m _ _ _ k (lengths .ground-lengths .ensures) (room .room-fault .ensures) (told .enum-told .given .1) in
     let t = ground-taken g m _ _ _ k (lengths .ground-lengths .ensures) (room .room-fault .ensures) (told .enum-told .given .1) in
-    rw k (ground-left g (now (a .vertices)) _ (now (a .normals)) _ (now (a .indices)) _ t f (rw e at (x .0)) (rw e at (x .1)) (rw k at (c .before .before .count-up .ensures)))
+    rw k (ground-left g (now (a .vertices)) _ (now (a .normals)) _ (now (a .indices)) _ t f (rw e at (x .0)) (rw e at (x .1))
+    (rw k at (c .before .before .count-up .ensures)))
 
 pub mesh-checked-spec : {M : Type 1} → statement M
 mesh-checked-spec =
@@ -144,7 +169,7 @@ mesh-checked-spec =
     clip-requires
     array-share-prefix-memory
     slice-aggregate-ears
-    step-of-requires
+    spacing-of-requires
     count-vertices-requires
     ground-lengths-requires
     room-fault-requires

@@ -22,7 +22,14 @@ count64-requires c κs = search needs
 
 returns : tie.Need-returns
 unfolding partsOf
-returns c = let a = c .before .before .before .before .before .args in let e = rw (c .before .clamp64 .ensures, c .before .before .ceil64 .ensures, c .before .before .before .widen .ensures, c .before .before .before .before .longest .ensures) at (c .count64 .ensures) in (e, rw e (parts-few (a .step) (a .a) (a .b) (a .c)))
+returns c =
+    let at-widen = c .before .before .before in
+    let start = at-widen .before .before in
+    let a = start .args in
+    let e = rw
+    (c .before .clamp64 .ensures, c .before .before .ceil64 .ensures, at-widen .widen .ensures, at-widen .before .longest .ensures) at
+    (c .count64 .ensures) in
+    (e, rw e (parts-few (a .step) (a .a) (a .b) (a .c)))
 
 pub parts-spec : {M : Type 1} → statement M
 parts-spec =

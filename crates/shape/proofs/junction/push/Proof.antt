@@ -1,5 +1,5 @@
 -- `shape::junction::push` meets its contract. Assumes nothing.
-use Rattle.shape.specs.JunctionMesh.{cornersOf, normalsOf}
+use Rattle.shape.specs.JunctionMesh.{cornerCoords, faceNormals}
 use borrow.Author.Needs.{needs}
 use Rattle.shape.proofs.junction.push.Statement.{statement}
 use Rattle.shape.proofs.junction.push.Tie as tie
@@ -20,8 +20,13 @@ same-length-2 : tie.Need-same-length-2
 same-length-2 c = search needs
 
 returns : tie.Need-returns
-unfolding cornersOf normalsOf
-returns c = let p = c .before .before .before .before .before .before .before .put-corners .ensures in let q = c .before .before .put-thrice .ensures in (record { memory = p .memory; ends = q .ends }, rw (c .before .before .before .face .ensures) at q)
+unfolding cornerCoords faceNormals
+returns c =
+    let at-face = c .before .before .before in
+    let at-put-corners = at-face .before .before .before .before in
+    let p = at-put-corners .put-corners .ensures in
+    let q = c .before .before .put-thrice .ensures in
+    (record { memory = p .memory; ends = q .ends }, rw (at-face .face .ensures) at q)
 
 pub push-spec : {M : Type 1} → statement M
 push-spec =

@@ -1,5 +1,5 @@
 -- `shape::junction::put_corners` meets its contract. Assumes nothing.
-use Rattle.shape.specs.JunctionMesh.{cornersOf}
+use Rattle.shape.specs.JunctionMesh.{cornerCoords}
 use Rattle.shape.specs.Laws.Memory.{put-then}
 use borrow.Author.Needs.{needs}
 use Rattle.shape.proofs.junction.put_corners.Statement.{statement}
@@ -18,8 +18,12 @@ same-length : tie.Need-same-length
 same-length c = search needs
 
 returns : tie.Need-returns
-unfolding cornersOf
-returns c = put-then (put-then (c .before .before .before .before .before .before .before .before .before .before .put-singles .ensures) (c .before .before .before .before .before .before .put-singles2 .ensures)) (c .before .before .put-singles3 .ensures)
+unfolding cornerCoords
+returns c =
+    let at-put-singles2 = c .before .before .before .before .before .before in
+    let at-put-singles = at-put-singles2 .before .before .before .before in
+    put-then (put-then (at-put-singles .put-singles .ensures) (at-put-singles2 .put-singles2 .ensures))
+    (c .before .before .put-singles3 .ensures)
 
 pub put-corners-spec : {M : Type 1} → statement M
 put-corners-spec =

@@ -17,7 +17,11 @@ same-length : tie.Need-same-length
 same-length c = search needs
 
 returns : tie.Need-returns
-returns c = put-then (put-then (c .before .before .before .before .before .before .before .before .before .before .put-singles .ensures) (c .before .before .before .before .before .before .put-singles2 .ensures)) (c .before .before .put-singles3 .ensures)
+returns c =
+    let at-put-singles2 = c .before .before .before .before .before .before in
+    let at-put-singles = at-put-singles2 .before .before .before .before in
+    put-then (put-then (at-put-singles .put-singles .ensures) (at-put-singles2 .put-singles2 .ensures))
+    (c .before .before .put-singles3 .ensures)
 
 pub put-thrice-spec : {M : Type 1} → statement M
 put-thrice-spec =

@@ -22,7 +22,14 @@ same-length : tie.Need-same-length
 same-length c = search needs
 
 returns : tie.Need-returns
-returns c = (λ blank ring h. add-new h (c .before .before .before .before .before .before .before .before .before .args .p) (sym (c .before .before .before .before .before .before .before .is-new .ensures ring (h .many) (h .end)) ∙ c .before .before .before .before .before .before .if1 .taken) (c .before .before .before .put-point .ensures), omega arith)
+returns c =
+    let at-put-point = c .before .before .before in
+    let at-if1 = at-put-point .before .before .before in
+    let start = at-if1 .before .before .before in (
+      λ blank ring h. add-new h (start .args .p) (sym (at-if1 .before .is-new .ensures ring (h .many) (h .end)) ∙ at-if1 .if1 .taken)
+          (at-put-point .put-point .ensures),
+      omega arith,
+    )
 
 returns-2 : tie.Need-returns-2
 returns-2 c = (λ blank ring h. add-old h (c .before .before .before .args .p) (sym (c .before .is-new .ensures ring (h .many) (h .end)) ∙ c .if1 .left), omega arith)

@@ -8,7 +8,7 @@ use denote.Ref.{now}
 use lib.Ieee.{Float}
 use lib.ListN.{length}
 use Rattle.vector.specs.declared.coords.Point.{Point}
-use Rattle.shape.specs.declared.junction_areas.Held.{Held}
+use Rattle.shape.specs.declared.junction_areas.RingSoFar.{RingSoFar}
 use Rattle.shape.specs.Lists.{pointAt}
 use Rattle.shape.specs.Outline.{pointFrom, extended}
 use Rattle.shape.specs.OutlineSteps.{Holds}
@@ -18,7 +18,7 @@ use Rattle.shape.proofs.junction_areas.append.Statement.{statement}
 use Rattle.shape.proofs.junction_areas.append.Tie as tie
 
 -- what i points of the segment make of whatever ring there was
-record Inv (s : List Float) (back : Bool) (line₀ line : List Float) (from h : Held) (n i : ℕ) : Type 0 where
+record Inv (s : List Float) (back : Bool) (line₀ line : List Float) (from h : RingSoFar) (n i : ℕ) : Type 0 where
   holds : (blank : List Float) (ring : List Point) → Holds blank line₀ ring from → Holds blank line (extended ring back s i) h
   few : h .count ≤ from .count + i
   most : i ≤ n
@@ -52,11 +52,15 @@ loop-less c = omega arith
 loop-again : tie.Need-loop-again Inv-loop μ-loop
 unfolding pointFrom
 loop-again c =
-    let a = c .before .before .before .before .before .before .before .before .before .before .args in
-    let at = c .before .before .before .before .before .before .before .loop in
-    let p = c .before .before .before .before .point-at .ensures ∙ ap (pointAt (now (a .s))) (c .before .before .before .before .before .place .ensures .0) in
+    let at-point-at = c .before .before .before .before in
+    let at-loop = at-point-at .before .before .before in
+    let start = at-loop .before .before .before in
+    let a = start .args in
+    let at = at-loop .loop in
+    let p = at-point-at .point-at .ensures ∙ ap (pointAt (now (a .s))) (at-point-at .before .place .ensures .0) in
     record {
-      holds = λ blank ring h. rw (extended-next ring (a .back) (now (a .s)) (at .i), ← p) (c .before .before .add-point .ensures .0 blank (extended ring (a .back) (now (a .s)) (at .i)) (at .inv .holds blank ring h));
+      holds = λ blank ring h. rw (extended-next ring (a .back) (now (a .s)) (at .i), ← p)
+          (c .before .before .add-point .ensures .0 blank (extended ring (a .back) (now (a .s)) (at .i)) (at .inv .holds blank ring h));
       few = omega (arith, c .before .before .add-point .ensures .1, at .inv .few);
       most = omega arith;
       long = omega (arith, at .inv .long);

@@ -19,7 +19,10 @@ mul-size c = search needs
 
 returns : tie.Need-returns
 unfolding ringOf
-returns c = λ ws xs e r g d. short-refused ws xs (now (c .before .before .before .before .args .out)) (c .before .open-count .result) e (c .before .open-count .ensures .0 (wholeLine ws xs .ring) r) (c .if1 .taken)
+returns c =
+    let start = c .before .before .before .before in
+    λ ws xs e r g d. short-refused ws xs (now (start .args .out)) (c .before .open-count .result) e
+    (c .before .open-count .ensures .0 (wholeLine ws xs .ring) r) (c .if1 .taken)
 
 slice-aggregate-open : tie.Need-slice-aggregate-open
 slice-aggregate-open c = simp length-take (omega (arith, c .before .before .open-count .ensures .1))
@@ -48,14 +51,21 @@ same-length c = search needs
 returns-2 : tie.Need-returns-2
 unfolding ringOf turnedOf
 returns-2 c =
+    let at-signed-area = c .before .before .before .before in
+    let at-max32 = at-signed-area .before in
+    let at-final-point = at-max32 .before .before .before in
+    let at-open-count = at-final-point .before .before .before in
+    let start = at-open-count .before .before .before in
     λ ws xs e r g d.
-    let a = c .before .before .before .before .before .before .before .before .before .before .before .before .before .before .args in
-    let n = c .before .before .before .before .before .before .before .before .before .before .before .open-count .ensures .0 (wholeLine ws xs .ring) r in
+    let a = start .args in
+    let n = at-open-count .open-count .ensures .0 (wholeLine ws xs .ring) r in
     let part = open-part (now (a .ring)) (wholeLine ws xs .ring) _ r n in
-    let t = ap (λ (x : Float). lt x 0f) (c .before .before .before .before .signed-area .ensures (ringOf ws xs) part) in
-    ring-made ws xs (now (a .out)) _ (c .before .before .before .before .before .before .before .before .before .before .before .open-count .result) (a .dropped) (c .before .before .before .before .before .max32 .result) _ (c .before .before .put-ring .result) e n (c .before .before .before .before .before .before .before .before .before .before .if1 .left) d
-    (widest-is (wholeLine ws xs) (now (a .ring)) (a .gap) _ _ _ _ r g (c .before .before .before .before .before .max32 .ensures) (c .before .before .before .before .before .before .reach .ensures) (c .before .before .before .before .before .before .before .before .final-point .ensures) (c .before .before .before .before .before .before .before .first-point .ensures))
-    t (c .before .before .put-ring .ensures (ringOf ws xs) part)
+    let t = ap (λ (x : Float). lt x 0f) (at-signed-area .signed-area .ensures (ringOf ws xs) part) in
+    ring-made ws xs (now (a .out)) _ (at-open-count .open-count .result) (a .dropped) (at-max32 .max32 .result) _
+    (c .before .before .put-ring .result) e n (at-final-point .before .before .if1 .left) d
+    (widest-is (wholeLine ws xs) (now (a .ring)) (a .gap) _ _ _ _ r g (at-max32 .max32 .ensures) (at-max32 .before .reach .ensures)
+    (at-final-point .final-point .ensures) (at-max32 .before .before .first-point .ensures)) t
+    (c .before .before .put-ring .ensures (ringOf ws xs) part)
 
 pub finish-spec : {M : Type 1} → statement M
 finish-spec =

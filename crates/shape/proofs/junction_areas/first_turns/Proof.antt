@@ -16,7 +16,12 @@ next-solid-requires : tie.Need-next-solid-requires
 next-solid-requires c κs = search needs
 
 returns : tie.Need-returns
-returns c = let a = c .before .before .before .before .before .args in let p = c .before .before .before .before .before .pre in λ end. alone (now (a .segments)) (now (a .points)) (a .k) (p .0 .0) (p .0 .1) (p .0 .2) end (rw (c .if1 .taken) at (c .before .next-solid .ensures .0 .2))
+returns c =
+    let start = c .before .before .before .before .before in
+    let a = start .args in
+    let p = start .pre in
+    λ end. alone (now (a .segments)) (now (a .points)) (a .k) (p .0 .0) (p .0 .1) (p .0 .2) end
+    (rw (c .if1 .taken) at (c .before .next-solid .ensures .0 .2))
 
 record-word-requires : tie.Need-record-word-requires
 record-word-requires c κs = search needs
@@ -34,22 +39,57 @@ mul-turns-first : tie.Need-mul-turns-first
 mul-turns-first c = search needs
 
 sub-turns-first : tie.Need-sub-turns-first
-sub-turns-first c = let a = c .before .before .before .before .before .before .before .args in let p = c .before .before .before .before .before .before .before .pre in let m : c .before .before .before .next-solid .result < length (now (a .segments)) / 2 = omega (arith, c .before .before .before .next-solid .ensures .0, c .before .before .if1 .left) in let r = run-sound (p .1) (c .before .before .before .next-solid .result) m in omega (arith, c .record-word2 .ensures .0, c .before .record-word .ensures .0)
+sub-turns-first c =
+    let at-next-solid = c .before .before .before in
+    let start = at-next-solid .before .before .before .before in
+    let a = start .args in
+    let p = start .pre in
+    let m : at-next-solid .next-solid .result < length (now (a .segments)) / 2 =
+    omega (arith, at-next-solid .next-solid .ensures .0, c .before .before .if1 .left) in
+    let r = run-sound (p .1) (at-next-solid .next-solid .result) m in
+    omega (arith, c .record-word2 .ensures .0, c .before .record-word .ensures .0)
 
 part-turns-first-start : tie.Need-part-turns-first-start
-part-turns-first-start c = let a = c .before .before .before .before .before .before .before .args in let p = c .before .before .before .before .before .before .before .pre in let m : c .before .before .before .next-solid .result < length (now (a .segments)) / 2 = omega (arith, c .before .before .before .next-solid .ensures .0, c .before .before .if1 .left) in let r = run-sound (p .1) (c .before .before .before .next-solid .result) m in omega (arith, c .record-word2 .ensures .0, c .before .record-word .ensures .0)
+part-turns-first-start c =
+    let at-next-solid = c .before .before .before in
+    let start = at-next-solid .before .before .before .before in
+    let a = start .args in
+    let p = start .pre in
+    let m : at-next-solid .next-solid .result < length (now (a .segments)) / 2 =
+    omega (arith, at-next-solid .next-solid .ensures .0, c .before .before .if1 .left) in
+    let r = run-sound (p .1) (at-next-solid .next-solid .result) m in
+    omega (arith, c .record-word2 .ensures .0, c .before .record-word .ensures .0)
 
 part-turns-first-end : tie.Need-part-turns-first-end
-part-turns-first-end c = let a = c .before .before .before .before .before .before .before .args in let p = c .before .before .before .before .before .before .before .pre in let m : c .before .before .before .next-solid .result < length (now (a .segments)) / 2 = omega (arith, c .before .before .before .next-solid .ensures .0, c .before .before .if1 .left) in let r = run-sound (p .1) (c .before .before .before .next-solid .result) m in omega (arith, c .record-word2 .ensures .0)
+part-turns-first-end c =
+    let at-next-solid = c .before .before .before in
+    let start = at-next-solid .before .before .before .before in
+    let a = start .args in
+    let p = start .pre in
+    let m : at-next-solid .next-solid .result < length (now (a .segments)) / 2 =
+    omega (arith, at-next-solid .next-solid .ensures .0, c .before .before .if1 .left) in
+    let r = run-sound (p .1) (at-next-solid .next-solid .result) m in
+    omega (arith, c .record-word2 .ensures .0)
 
 turns-first-requires : tie.Need-turns-first-requires
 turns-first-requires c κs = search needs
 
 returns-2 : tie.Need-returns-2
 returns-2 c =
-    let a = c .before .before .before .before .before .before .before .before .before .args in let p = c .before .before .before .before .before .before .before .before .before .pre in let m : c .before .before .before .before .before .next-solid .result < length (now (a .segments)) / 2 = omega (arith, c .before .before .before .before .before .next-solid .ensures .0, c .before .before .before .before .if1 .left) in
-    let t = rw (p .0 .3, segment-part (p .1) (c .before .before .before .before .before .next-solid .result) m _ _ (c .before .before .before .record-word .ensures .0) (c .before .before .record-word2 .ensures .0)) at (c .turns-first .ensures) in
-    λ end. t ∙ followed (now (a .segments)) (now (a .points)) (a .k) (p .0 .0) (p .0 .1) (p .0 .2) end (c .before .before .before .before .before .next-solid .result) m (c .before .before .before .before .before .next-solid .ensures .1 m) (c .before .before .before .before .before .next-solid .ensures .0 .2)
+    let at-record-word = c .before .before .before in
+    let at-next-solid = at-record-word .before .before in
+    let start = at-next-solid .before .before .before .before in
+    let a = start .args in
+    let p = start .pre in
+    let m : at-next-solid .next-solid .result < length (now (a .segments)) / 2 =
+    omega (arith, at-next-solid .next-solid .ensures .0, at-record-word .before .if1 .left) in
+    let t = rw (
+      p .0 .3,
+      segment-part (p .1) (at-next-solid .next-solid .result) m _ _ (at-record-word .record-word .ensures .0)
+          (c .before .before .record-word2 .ensures .0),
+    ) at (c .turns-first .ensures) in
+    λ end. t ∙ followed (now (a .segments)) (now (a .points)) (a .k) (p .0 .0) (p .0 .1) (p .0 .2) end (at-next-solid .next-solid .result) m
+    (at-next-solid .next-solid .ensures .1 m) (at-next-solid .next-solid .ensures .0 .2)
 
 pub first-turns-spec : {M : Type 1} → statement M
 first-turns-spec =

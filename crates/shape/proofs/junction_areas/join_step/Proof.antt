@@ -18,8 +18,12 @@ record-word-requires-2 c κs = search needs
 
 returns : tie.Need-returns
 returns c =
-    let a = c .before .before .before .before .before .before .args in let p = c .before .before .before .before .before .before .pre in let r = run-sound (p .1) (a .k) (p .0 .0) in (
-      λ blank at. join-none (now (a .segments)) (now (a .points)) blank (a .k) at (omega (arith, c .before .record-word2 .ensures .0, c .before .before .record-word .ensures .0)),
+    let start = c .before .before .before .before .before .before in
+    let a = start .args in
+    let p = start .pre in
+    let r = run-sound (p .1) (a .k) (p .0 .0) in (
+      λ blank at. join-none (now (a .segments)) (now (a .points)) blank (a .k) at
+          (omega (arith, c .before .record-word2 .ensures .0, c .before .before .record-word .ensures .0)),
       rw (last-end-next (now (a .segments)) (a .k)) (omega (arith, p .0 .2)),
       p .0 .4,
     )
@@ -40,10 +44,30 @@ part-turn-at-start : tie.Need-part-turn-at-start
 part-turn-at-start c = search needs
 
 part-turn-at-end : tie.Need-part-turn-at-end
-part-turn-at-end c = let a = c .before .before .before .before .before .before .args in let p = c .before .before .before .before .before .before .pre in let r = run-sound (p .1) (a .k) (p .0 .0) in omega (arith, c .before .record-word2 .ensures .0)
+part-turn-at-end c =
+    let start = c .before .before .before .before .before .before in
+    let a = start .args in
+    let p = start .pre in
+    let r = run-sound (p .1) (a .k) (p .0 .0) in
+    omega (arith, c .before .record-word2 .ensures .0)
 
 turn-at-requires : tie.Need-turn-at-requires
-turn-at-requires c κs = let a = c .before .before .before .before .before .before .before .args in let p = c .before .before .before .before .before .before .before .pre in let l : startOf 2 0 (now (a .segments)) (a .k) < endOf 2 0 (now (a .segments)) (a .k) = omega (arith, c .before .before .before .record-word .ensures .0, c .before .before .record-word2 .ensures .0, c .before .if1 .left) in ((p .0 .0, l, p .0 .3, segment-part (p .1) (a .k) (p .0 .0) _ _ (c .before .before .before .record-word .ensures .0) (c .before .before .record-word2 .ensures .0), p .0 .4), p .1)
+turn-at-requires c κs =
+    let at-record-word = c .before .before .before in
+    let start = at-record-word .before .before .before .before in
+    let a = start .args in
+    let p = start .pre in
+    let l : startOf 2 0 (now (a .segments)) (a .k) < endOf 2 0 (now (a .segments)) (a .k) =
+    omega (arith, at-record-word .record-word .ensures .0, c .before .before .record-word2 .ensures .0, c .before .if1 .left) in (
+      (
+        p .0 .0,
+        l,
+        p .0 .3,
+        segment-part (p .1) (a .k) (p .0 .0) _ _ (at-record-word .record-word .ensures .0) (c .before .before .record-word2 .ensures .0),
+        p .0 .4,
+      ),
+      p .1,
+    )
 
 mul-append : tie.Need-mul-append
 mul-append c = search needs
@@ -55,28 +79,55 @@ part-append-start : tie.Need-part-append-start
 part-append-start c = search needs
 
 part-append-end : tie.Need-part-append-end
-part-append-end c = let a = c .before .before .before .before .before .before .before .before .before .args in let p = c .before .before .before .before .before .before .before .before .before .pre in let r = run-sound (p .1) (a .k) (p .0 .0) in omega (arith, c .before .before .before .before .record-word2 .ensures .0)
+part-append-end c =
+    let at-record-word2 = c .before .before .before .before in
+    let start = at-record-word2 .before .before .before .before .before in
+    let a = start .args in
+    let p = start .pre in
+    let r = run-sound (p .1) (a .k) (p .0 .0) in
+    omega (arith, at-record-word2 .record-word2 .ensures .0)
 
 append-requires : tie.Need-append-requires
 append-requires c κs =
-    let a = c .before .before .before .before .before .before .before .before .before .before .before .args in let p = c .before .before .before .before .before .before .before .before .before .before .before .pre in let r = run-sound (p .1) (a .k) (p .0 .0) in
-    let n = ap length (segment-part (p .1) (a .k) (p .0 .0) _ _ (c .before .before .before .before .before .before .before .record-word .ensures .0) (c .before .before .before .before .before .before .record-word2 .ensures .0)) ∙ segment-count (p .1) (a .k) (p .0 .0) in
+    let at-record-word2 = c .before .before .before .before .before .before in
+    let start = at-record-word2 .before .before .before .before .before in
+    let a = start .args in
+    let p = start .pre in
+    let r = run-sound (p .1) (a .k) (p .0 .0) in
+    let n = ap length
+    (segment-part (p .1) (a .k) (p .0 .0) _ _ (at-record-word2 .before .record-word .ensures .0) (at-record-word2 .record-word2 .ensures .0))
+    ∙ segment-count (p .1) (a .k) (p .0 .0) in
     (omega (arith, p .0 .1, p .0 .2, p .1 .small), omega (arith, p .1 .small))
 
 add-t15 : tie.Need-add-t15
-add-t15 c = let a = c .before .before .before .before .before .before .before .before .before .before .before .before .before .before .before .before .args in let p = c .before .before .before .before .before .before .before .before .before .before .before .before .before .before .before .before .pre in omega (arith, p .0 .0, p .0 .3, solid-most (now (a .segments)) (a .k))
+add-t15 c =
+    let at-turn-at = c .before .before .before .before .before .before .before .before in
+    let start = at-turn-at .before .before .before .before .before .before .before .before in
+    let a = start .args in
+    let p = start .pre in
+    omega (arith, p .0 .0, p .0 .3, solid-most (now (a .segments)) (a .k))
 
 same-length : tie.Need-same-length
 same-length c = search needs
 
 returns-2 : tie.Need-returns-2
 returns-2 c =
-    let a = c .before .before .before .before .before .before .before .before .before .before .before .before .before .before .before .before .args in let p = c .before .before .before .before .before .before .before .before .before .before .before .before .before .before .before .before .pre in let r = run-sound (p .1) (a .k) (p .0 .0) in let l : startOf 2 0 (now (a .segments)) (a .k) < endOf 2 0 (now (a .segments)) (a .k) = omega (arith, c .before .before .before .before .before .before .before .before .before .before .before .before .record-word .ensures .0, c .before .before .before .before .before .before .before .before .before .before .before .record-word2 .ensures .0, c .before .before .before .before .before .before .before .before .before .before .if1 .left) in
-    let part = segment-part (p .1) (a .k) (p .0 .0) _ _ (c .before .before .before .before .before .before .before .before .before .before .before .before .record-word .ensures .0) (c .before .before .before .before .before .before .before .before .before .before .before .record-word2 .ensures .0) in
+    let at-append = c .before .before .before .before in
+    let at-turn-at = at-append .before .before .before .before in
+    let at-record-word2 = at-turn-at .before .before .before in
+    let at-record-word = at-record-word2 .before in
+    let start = at-record-word .before .before .before .before in
+    let a = start .args in
+    let p = start .pre in
+    let r = run-sound (p .1) (a .k) (p .0 .0) in
+    let l : startOf 2 0 (now (a .segments)) (a .k) < endOf 2 0 (now (a .segments)) (a .k) =
+    omega (arith, at-record-word .record-word .ensures .0, at-record-word2 .record-word2 .ensures .0, at-turn-at .before .before .if1 .left) in
+    let part = segment-part (p .1) (a .k) (p .0 .0) _ _ (at-record-word .record-word .ensures .0) (at-record-word2 .record-word2 .ensures .0) in
     let n = ap length part ∙ segment-count (p .1) (a .k) (p .0 .0) in
-    let t = c .before .before .before .before .before .before .before .before .turn-at .ensures in (
-      λ blank at. join-more (now (a .segments)) (now (a .points)) blank (a .k) at _ _ _ _ (p .0 .0) l part (t .0, t .1) (c .before .before .before .before .append .ensures .0 blank _ (at .holds)),
-      rw (last-end-next (now (a .segments)) (a .k)) (omega (arith, c .before .before .before .before .append .ensures .1, p .0 .2)),
+    let t = at-turn-at .turn-at .ensures in (
+      λ blank at. join-more (now (a .segments)) (now (a .points)) blank (a .k) at _ _ _ _ (p .0 .0) l part (t .0, t .1)
+          (at-append .append .ensures .0 blank _ (at .holds)),
+      rw (last-end-next (now (a .segments)) (a .k)) (omega (arith, at-append .append .ensures .1, p .0 .2)),
       t .2,
     )
 

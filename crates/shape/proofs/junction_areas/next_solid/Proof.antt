@@ -26,7 +26,11 @@ record-word-requires-2 : tie.Need-record-word-requires-2 Inv-loop μ-loop
 record-word-requires-2 c κs = search needs
 
 returns : tie.Need-returns Inv-loop μ-loop
-returns c = ((omega arith, omega arith, c .before .before .before .before .loop .inv .2), λ h. rw (← (c .before .before .record-word .ensures .0), ← (c .before .record-word2 .ensures .0)) (c .if1 .taken))
+returns c =
+    let at-loop = c .before .before .before .before in (
+      (omega arith, omega arith, at-loop .loop .inv .2),
+      λ h. rw (← (c .before .before .record-word .ensures .0), ← (c .before .record-word2 .ensures .0)) (c .if1 .taken),
+    )
 
 add-i : tie.Need-add-i Inv-loop μ-loop
 add-i c = omega arith
@@ -35,7 +39,14 @@ loop-less : tie.Need-loop-less Inv-loop μ-loop
 loop-less c = omega arith
 
 loop-again : tie.Need-loop-again Inv-loop μ-loop
-loop-again c = (omega arith, omega arith, solid-same (now (c .before .before .before .before .before .before .args .segments)) (c .before .before .before .before .loop .i) (rw (← (c .before .before .record-word .ensures .0), ← (c .before .record-word2 .ensures .0)) (c .if1 .left)) ∙ c .before .before .before .before .loop .inv .2)
+loop-again c =
+    let at-loop = c .before .before .before .before in
+    let start = at-loop .before .before in (
+      omega arith,
+      omega arith,
+      solid-same (now (start .args .segments)) (at-loop .loop .i)
+          (rw (← (c .before .before .record-word .ensures .0), ← (c .before .record-word2 .ensures .0)) (c .if1 .left)) ∙ at-loop .loop .inv .2,
+    )
 
 returns-2 : tie.Need-returns-2 Inv-loop μ-loop
 returns-2 c = ((omega arith, omega arith, c .before .loop .inv .2), λ h. absurd (omega arith))

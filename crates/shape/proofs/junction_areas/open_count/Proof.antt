@@ -27,27 +27,42 @@ sub-result : tie.Need-sub-result
 sub-result c = search needs
 
 returns : tie.Need-returns
-returns c = (
-  λ line e.
-      let a = now (c .before .before .before .before .before .before .args .ring) in
-      let h : le (reachOf (firstOf a) (finalOf a)) milli ≡ true = rw (← (c .before .before .before .first-point .ensures), ← (c .before .before .final-point .ensures)) (sym (c .before .meets .ensures) ∙ c .if2 .taken) in
-      let n : length a / 3 ≡ length line = ap (λ (l : List Float). length l / 3) e ∙ flat-count line in
-      let k = closing-is a line true e (c .before .before .before .before .if1 .taken) h in rw n (count-closed line k),
-  omega arith,
-)
+returns c =
+    let at-first-point = c .before .before .before in
+    let start = at-first-point .before .before .before in (
+      λ line e.
+          let a = now (start .args .ring) in
+          let h : le (reachOf (firstOf a) (finalOf a)) milli ≡ true = rw
+          (← (at-first-point .first-point .ensures), ← (c .before .before .final-point .ensures))
+          (sym (c .before .meets .ensures) ∙ c .if2 .taken) in
+          let n : length a / 3 ≡ length line = ap (λ (l : List Float). length l / 3) e ∙ flat-count line in
+          let k = closing-is a line true e (at-first-point .before .if1 .taken) h in
+          rw n (count-closed line k),
+      omega arith,
+    )
 
 returns-2 : tie.Need-returns-2
-returns-2 c = (
-  λ line e.
-      let a = now (c .before .before .before .before .before .before .args .ring) in
-      let h : le (reachOf (firstOf a) (finalOf a)) milli ≡ false = rw (← (c .before .before .before .first-point .ensures), ← (c .before .before .final-point .ensures)) (sym (c .before .meets .ensures) ∙ c .if2 .left) in
-      let n : length a / 3 ≡ length line = ap (λ (l : List Float). length l / 3) e ∙ flat-count line in
-      let k = closing-is a line false e (c .before .before .before .before .if1 .taken) h in rw n (count-open line k),
-  omega arith,
-)
+returns-2 c =
+    let at-first-point = c .before .before .before in
+    let start = at-first-point .before .before .before in (
+      λ line e.
+          let a = now (start .args .ring) in
+          let h : le (reachOf (firstOf a) (finalOf a)) milli ≡ false = rw
+          (← (at-first-point .first-point .ensures), ← (c .before .before .final-point .ensures))
+          (sym (c .before .meets .ensures) ∙ c .if2 .left) in
+          let n : length a / 3 ≡ length line = ap (λ (l : List Float). length l / 3) e ∙ flat-count line in
+          let k = closing-is a line false e (at-first-point .before .if1 .taken) h in
+          rw n (count-open line k),
+      omega arith,
+    )
 
 returns-3 : tie.Need-returns-3
-returns-3 c = (λ line e. let n : length (now (c .before .before .args .ring)) / 3 ≡ length line = ap (λ (l : List Float). length l / 3) e ∙ flat-count line in rw n (count-open line (closing-few line (omega arith))), omega arith)
+returns-3 c = (
+  λ line e.
+      let n : length (now (c .before .before .args .ring)) / 3 ≡ length line = ap (λ (l : List Float). length l / 3) e ∙ flat-count line in
+      rw n (count-open line (closing-few line (omega arith))),
+  omega arith,
+)
 
 pub open-count-spec : {M : Type 1} → statement M
 open-count-spec =

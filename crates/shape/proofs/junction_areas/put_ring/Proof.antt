@@ -44,11 +44,15 @@ loop-less c = omega arith
 loop-again : tie.Need-loop-again Inv-loop μ-loop
 unfolding reversedAt
 loop-again c =
-    let a = c .before .before .before .before .before .before .before .before .before .before .args in
-    let at = c .before .before .before .before .before .before .before .loop in
-    let p = c .before .before .before .point-at .ensures ∙ ap (pointAt (now (a .ring))) (c .before .before .before .before .place .ensures .0) in (
-      λ line e. rw (reversed-next (a .back) line (at .i)) (put-then (at .inv .0 line e) (rw (p, e, flat-count line, flat-at line (placeFrom (a .back) (length line) (at .i))) at (c .before .before .put-point .ensures))),
-      omega (arith, c .before .before .put-point .ensures .ends, flat-length (c .before .before .before .point-at .result ∷ [])),
+    let at-point-at = c .before .before .before in
+    let at-loop = at-point-at .before .before .before .before in
+    let start = at-loop .before .before .before in
+    let a = start .args in
+    let at = at-loop .loop in
+    let p = at-point-at .point-at .ensures ∙ ap (pointAt (now (a .ring))) (at-point-at .before .place .ensures .0) in (
+      λ line e. rw (reversed-next (a .back) line (at .i)) (put-then (at .inv .0 line e)
+          (rw (p, e, flat-count line, flat-at line (placeFrom (a .back) (length line) (at .i))) at (c .before .before .put-point .ensures))),
+      omega (arith, c .before .before .put-point .ensures .ends, flat-length (at-point-at .point-at .result ∷ [])),
       omega arith,
       omega (arith, at .inv .3),
     )

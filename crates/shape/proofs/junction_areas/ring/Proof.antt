@@ -15,7 +15,12 @@ enum-known-fault c = search needs
 
 returns : tie.Need-returns
 unfolding found
-returns c = let a = c .before .before .before .before .before .before .before .args in lists-refused (now (a .segments)) (now (a .points)) (now (a .out)) _ (sym (c .before .before .before .outline-fault .ensures) ∙ ap found (c .before .fault .given .1))
+returns c =
+    let at-outline-fault = c .before .before .before in
+    let start = at-outline-fault .before .before .before .before in
+    let a = start .args in
+    lists-refused (now (a .segments)) (now (a .points)) (now (a .out)) _
+    (sym (at-outline-fault .outline-fault .ensures) ∙ ap found (c .before .fault .given .1))
 
 enum-told : tie.Need-enum-told
 enum-told c = search needs

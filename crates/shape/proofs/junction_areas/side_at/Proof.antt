@@ -17,7 +17,19 @@ point-at-requires-2 c κs = search needs
 
 returns : tie.Need-returns
 unfolding sideAt
-returns c = λ line e. rw (c .before .before .before .before .point-at2 .ensures, c .before .before .before .before .before .next-on .ensures .0, c .before .before .before .before .before .before .before .before .pre .1, c .before .before .before .before .before .before .point-at .ensures, e, flat-count line, flat-at line (c .before .before .before .before .before .before .before .before .args .i), flat-at line (nextOn (length line) (c .before .before .before .before .before .before .before .before .args .i)))
+returns c =
+    let at-point-at2 = c .before .before .before .before in
+    let start = at-point-at2 .before .before .before .before in
+    λ line e. rw (
+      at-point-at2 .point-at2 .ensures,
+      at-point-at2 .before .next-on .ensures .0,
+      start .pre .1,
+      at-point-at2 .before .before .point-at .ensures,
+      e,
+      flat-count line,
+      flat-at line (start .args .i),
+      flat-at line (nextOn (length line) (start .args .i)),
+    )
 
 pub side-at-spec : {M : Type 1} → statement M
 side-at-spec = tie.close (tie.spec point-at-requires next-on-requires point-at-requires-2 returns)

@@ -33,11 +33,23 @@ loop-less : tie.Need-loop-less Inv-loop μ-loop
 loop-less c = omega arith
 
 loop-again : tie.Need-loop-again Inv-loop μ-loop
-loop-again c = (λ line e. rw (area-next line (c .before .before .loop .i) (c .before .before .loop .inv .1), ← (c .before .before .loop .inv .0 line e), ← (c .side-at2 .ensures line e)), omega arith, omega arith)
+loop-again c = (
+  λ line e. rw (
+    area-next line (c .before .before .loop .i) (c .before .before .loop .inv .1),
+    ← (c .before .before .loop .inv .0 line e),
+    ← (c .side-at2 .ensures line e),
+  ),
+  omega arith,
+  omega arith,
+)
 
 returns : tie.Need-returns Inv-loop μ-loop
 unfolding areaOf
-returns c = λ line e. let k : c .before .loop .i - 1 ≡ length line - 1 = omega (arith, c .before .loop .inv .1, c .before .loop .inv .2, flat-count line, ap length e) in rw k at (c .before .loop .inv .0 line e)
+returns c =
+    λ line e.
+    let k : c .before .loop .i - 1 ≡ length line - 1 =
+    omega (arith, c .before .loop .inv .1, c .before .loop .inv .2, flat-count line, ap length e) in
+    rw k at (c .before .loop .inv .0 line e)
 
 pub signed-area-spec : {M : Type 1} → statement M
 signed-area-spec =

@@ -24,7 +24,16 @@ nearness-requires-2 c κs = search needs
 
 returns : tie.Need-returns
 unfolding turnsFirst
-returns c = rw (c .nearness2 .ensures, c .before .final-point2 .ensures, c .before .before .nearness .ensures, c .before .before .before .first-point2 .ensures, c .before .before .before .before .final-point .ensures, c .before .before .before .before .before .first-point .ensures)
+returns c =
+    let at-first-point2 = c .before .before .before in
+    rw (
+      c .nearness2 .ensures,
+      c .before .final-point2 .ensures,
+      c .before .before .nearness .ensures,
+      at-first-point2 .first-point2 .ensures,
+      at-first-point2 .before .final-point .ensures,
+      at-first-point2 .before .before .first-point .ensures,
+    )
 
 pub turns-first-spec : {M : Type 1} → statement M
 turns-first-spec =

@@ -13,10 +13,15 @@ max32-requires : tie.Need-max32-requires
 max32-requires c κs = search needs
 
 returns : tie.Need-returns
-returns c = let e = rw (c .before .root .ensures) at (c .max32 .ensures) in (e, covers-more (c .before .before .before .before .args .gap) (c .before .before .before .before .args .s) _ (c .before .before .before .before .pre .0) (subst T (sym (c .before .before .if1 .taken)) tt) e)
+returns c =
+    let start = c .before .before .before .before in
+    let e = rw (c .before .root .ensures) at (c .max32 .ensures) in
+    (e, covers-more (start .args .gap) (start .args .s) _ (start .pre .0) (subst T (sym (c .before .before .if1 .taken)) tt) e)
 
 returns-2 : tie.Need-returns-2
-returns-2 c = (covers-same (c .before .before .args .gap) (c .before .before .args .s) (c .before .before .pre .0) (c .before .before .pre .1) (c .if1 .left), c .before .before .pre .0)
+returns-2 c =
+    let start = c .before .before in
+    (covers-same (start .args .gap) (start .args .s) (start .pre .0) (start .pre .1) (c .if1 .left), start .pre .0)
 
 pub widened-spec : {M : Type 1} → statement M
 widened-spec = tie.close (tie.spec root-requires max32-requires returns returns-2)

@@ -33,7 +33,17 @@ loop-less : tie.Need-loop-less Inv-loop μ-loop
 loop-less c = omega arith
 
 loop-again : tie.Need-loop-again Inv-loop μ-loop
-loop-again c = let a = c .before .before .before .before .before .args in (rw (any-next (runBad (a .width) (a .a) (now (a .ws)) (a .n)) (c .before .before .before .loop .k), ← (c .before .before .before .loop .inv .0), ← (c .before .run-bad .ensures)) (c .either .ensures), omega arith)
+loop-again c =
+    let at-loop = c .before .before .before in
+    let start = at-loop .before .before in
+    let a = start .args in (
+      rw (
+        any-next (runBad (a .width) (a .a) (now (a .ws)) (a .n)) (at-loop .loop .k),
+        ← (at-loop .loop .inv .0),
+        ← (c .before .run-bad .ensures),
+      ) (c .either .ensures),
+      omega arith,
+    )
 
 returns : tie.Need-returns Inv-loop μ-loop
 returns c = let e : c .before .loop .k ≡ c .before .before .before .args .m = omega (arith, c .before .loop .inv .1) in rw e at (c .before .loop .inv .0)

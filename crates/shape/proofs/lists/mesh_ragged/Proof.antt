@@ -1,5 +1,5 @@
 -- `shape::lists::mesh_ragged` meets its contract: the calls are the definition's lines, the last first. Assumes nothing.
-use Prim.Native.Nat.{ℕ, _+_}
+use Prim.Native.Nat.{ℕ}
 use mathlib.Core.Path.{_≡_, refl}
 use mathlib.Core.Bool.{Bool, true, false, not, _||_}
 use Rattle.shape.specs.Refusal.{fine, found, refuse}
@@ -45,8 +45,17 @@ both false false q = refl
 returns : tie.Need-returns
 unfolding meshRagged uneven found
 returns c =
-    let judged = c .before .before .before .before in
-    rw (c .ragged-if4 .ensures, c .before .ragged-if3 .ensures, c .before .before .ragged-if2 .ensures, c .before .before .before .ragged-if .ensures, judged .before .wide .ensures, judged .runs-rise .ensures, both)
+    let at-ragged-if = c .before .before .before in
+    let judged = at-ragged-if .before in
+    rw (
+      c .ragged-if4 .ensures,
+      c .before .ragged-if3 .ensures,
+      c .before .before .ragged-if2 .ensures,
+      at-ragged-if .ragged-if .ensures,
+      judged .before .wide .ensures,
+      judged .runs-rise .ensures,
+      both,
+    )
 
 pub mesh-ragged-spec : {M : Type 1} → statement M
 mesh-ragged-spec =

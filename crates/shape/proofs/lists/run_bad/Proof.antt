@@ -24,7 +24,15 @@ either-requires-2 c κs = search needs
 
 returns : tie.Need-returns
 unfolding runBad
-returns c = rw (c .either2 .ensures, c .before .either .ensures, c .before .before .last-end .ensures, c .before .before .before .near-word2 .ensures .0, c .before .before .before .before .near-word .ensures .0)
+returns c =
+    let at-near-word2 = c .before .before .before in
+    rw (
+      c .either2 .ensures,
+      c .before .either .ensures,
+      c .before .before .last-end .ensures,
+      at-near-word2 .near-word2 .ensures .0,
+      at-near-word2 .before .near-word .ensures .0,
+    )
 
 pub run-bad-spec : {M : Type 1} → statement M
 run-bad-spec =

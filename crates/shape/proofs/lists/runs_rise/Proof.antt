@@ -1,5 +1,5 @@
 -- `shape::lists::runs_rise` meets its contract. The loop's invariant: the runs of the first i spans rise. Assumes nothing.
-use Prim.Native.Nat.{ℕ, _-_, _/_, _≤_, _<_, zero-le}
+use Prim.Native.Nat.{_-_, _/_, _≤_, _<_, zero-le}
 use mathlib.Core.Path.{_≡_, sym}
 use native.Mathlib.Omega.{arith}
 use lib.ListN.{length}
@@ -73,56 +73,82 @@ wide-requires-4 c κs = search needs
 abbrev Read : Type 0
 Read = tie.After-wide4 Inv-loop μ-loop
 
-below : (r : Read) → r .before .before .before .before .before .before .before .before .before .loop .i < length (r .before .before .before .before .before .before .before .before .before .before .before .args .spans .now) / 5
+below : (r : Read) →
+    let at-loop = r .before .before .before .before .before .before .before .before .before in
+    let start = at-loop .before .before in
+    at-loop .loop .i < length (start .args .spans .now) / 5
 below r = omega (arith, r .before .before .before .before .before .before .before .before)
 
 returns : tie.Need-returns Inv-loop μ-loop
 unfolding wordOf
 returns c =
     let r = c .before in
-    let a = r .before .before .before .before .before .before .before .before .before .before .before .args in
-    let l = r .before .before .before .before .before .before .before .before .before .loop in
-    vertices-back (a .spans .now) (a .n) (a .k) (length (a .spans .now) / 5) (l .i) (below r) (r .before .before .before .before .before .before .wide .ensures) (l .inv .1) (c .if1 .taken)
+    let at-wide = r .before .before .before .before .before .before in
+    let at-loop = at-wide .before .before .before in
+    let start = at-loop .before .before in
+    let a = start .args in
+    let l = at-loop .loop in
+    vertices-back (a .spans .now) (a .n) (a .k) (length (a .spans .now) / 5) (l .i) (below r) (at-wide .wide .ensures) (l .inv .1)
+    (c .if1 .taken)
 
 returns-2 : tie.Need-returns-2 Inv-loop μ-loop
 unfolding wordOf
 returns-2 c =
     let r = c .before .before in
-    let a = r .before .before .before .before .before .before .before .before .before .before .before .args in
-    let l = r .before .before .before .before .before .before .before .before .before .loop in
-    vertices-turned (a .spans .now) (a .n) (a .k) (length (a .spans .now) / 5) (l .i) (below r) (r .before .before .before .before .before .before .wide .ensures) (r .before .before .before .before .wide2 .ensures) (c .if2 .taken)
+    let at-wide2 = r .before .before .before .before in
+    let at-loop = at-wide2 .before .before .before .before .before in
+    let start = at-loop .before .before in
+    let a = start .args in
+    let l = at-loop .loop in
+    vertices-turned (a .spans .now) (a .n) (a .k) (length (a .spans .now) / 5) (l .i) (below r) (at-wide2 .before .before .wide .ensures)
+    (at-wide2 .wide2 .ensures) (c .if2 .taken)
 
 returns-3 : tie.Need-returns-3 Inv-loop μ-loop
 unfolding wordOf
 returns-3 c =
     let r = c .before .before .before in
-    let a = r .before .before .before .before .before .before .before .before .before .before .before .args in
-    let l = r .before .before .before .before .before .before .before .before .before .loop in
-    indices-back (a .spans .now) (a .n) (a .k) (length (a .spans .now) / 5) (l .i) (below r) (r .before .before .wide3 .ensures) (l .inv .2) (c .if3 .taken)
+    let at-loop = r .before .before .before .before .before .before .before .before .before in
+    let start = at-loop .before .before in
+    let a = start .args in
+    let l = at-loop .loop in
+    indices-back (a .spans .now) (a .n) (a .k) (length (a .spans .now) / 5) (l .i) (below r) (r .before .before .wide3 .ensures) (l .inv .2)
+    (c .if3 .taken)
 
 returns-4 : tie.Need-returns-4 Inv-loop μ-loop
 unfolding wordOf
 returns-4 c =
     let r = c .before .before .before .before in
-    let a = r .before .before .before .before .before .before .before .before .before .before .before .args in
-    let l = r .before .before .before .before .before .before .before .before .before .loop in
-    indices-turned (a .spans .now) (a .n) (a .k) (length (a .spans .now) / 5) (l .i) (below r) (r .before .before .wide3 .ensures) (r .wide4 .ensures) (c .if4 .taken)
+    let at-loop = r .before .before .before .before .before .before .before .before .before in
+    let start = at-loop .before .before in
+    let a = start .args in
+    let l = at-loop .loop in
+    indices-turned (a .spans .now) (a .n) (a .k) (length (a .spans .now) / 5) (l .i) (below r) (r .before .before .wide3 .ensures)
+    (r .wide4 .ensures) (c .if4 .taken)
 
 add-i : tie.Need-add-i Inv-loop μ-loop
 add-i c = search needs
 
 loop-less : tie.Need-loop-less Inv-loop μ-loop
-loop-less c = omega (arith, c .before .before .before .before .before .before .before .before .before .before .before .before)
+loop-less c =
+    let at-wide3 = c .before .before .before .before .before .before in
+    let at-loop-test = at-wide3 .before .before .before .before .before .before in
+    omega (arith, at-loop-test)
 
 loop-again : tie.Need-loop-again Inv-loop μ-loop
 unfolding wordOf
 loop-again c =
-    let r = c .before .before .before .before in
-    let ss = r .before .before .before .before .before .before .before .before .before .before .before .args .spans .now in
-    let l = r .before .before .before .before .before .before .before .before .before .loop in
-    let v = turn ss 1 (l .i) (r .before .before .before .before .before .before .wide .ensures) (r .before .before .before .before .wide2 .ensures) (l .inv .1) (c .before .before .before .if1 .left) (c .before .before .if2 .left) (l .inv .3) in
-    let w = turn ss 3 (l .i) (r .before .before .wide3 .ensures) (r .wide4 .ensures) (l .inv .2) (c .before .if3 .left) (c .if4 .left) (l .inv .4) in
-    (omega (arith, r .before .before .before .before .before .before .before .before), v .0, w .0, v .1, w .1)
+    let at-if1 = c .before .before .before in
+    let r = at-if1 .before in
+    let at-wide2 = r .before .before .before .before in
+    let at-loop-test = at-wide2 .before .before .before .before in
+    let start = at-loop-test .before .before .before in
+    let ss = start .args .spans .now in
+    let l = at-loop-test .before .loop in
+    let v = turn ss 1 (l .i) (at-wide2 .before .before .wide .ensures) (at-wide2 .wide2 .ensures) (l .inv .1) (at-if1 .if1 .left)
+    (c .before .before .if2 .left) (l .inv .3) in
+    let w =
+    turn ss 3 (l .i) (r .before .before .wide3 .ensures) (r .wide4 .ensures) (l .inv .2) (c .before .if3 .left) (c .if4 .left) (l .inv .4) in
+    (omega (arith, at-loop-test), v .0, w .0, v .1, w .1)
 
 returns-5 : tie.Need-returns-5 Inv-loop μ-loop
 returns-5 c =

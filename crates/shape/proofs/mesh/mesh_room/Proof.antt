@@ -31,8 +31,10 @@ enum-known-f c = search needs
 
 totals-requires : tie.Need-totals-requires
 totals-requires c κs =
-    let start = c .before .before .before .before .before .before .before .before .before .before .before in
-    let a = start .args in let g = given (now (a .points)) (now (a .tangents)) (now (a .widths)) (now (a .banks)) (now (a .lanes)) in
+    let at-most-sizes = c .before .before .before .before .before in
+    let start = at-most-sizes .before .before .before .before .before .before in
+    let a = start .args in
+    let g = given (now (a .points)) (now (a .tangents)) (now (a .widths)) (now (a .banks)) (now (a .lanes)) in
     few-lanes g (start .pre)
 
 lengths-at-requires-2 : tie.Need-lengths-at-requires-2
@@ -48,19 +50,25 @@ returns c =
     let at-lengths = at-room .before in
     let most = at-lengths .before in
     let start = most .before .before .before .before .before .before in
-    let a = start .args in let g = given (now (a .points)) (now (a .tangents)) (now (a .widths)) (now (a .banks)) (now (a .lanes)) in
+    let a = start .args in
+    let g = given (now (a .points)) (now (a .tangents)) (now (a .widths)) (now (a .banks)) (now (a .lanes)) in
     let e : roomFault (lengthsAt (most .most-sizes .result)) (a .lent) ≡ fine =
-    sym (at-room .room-fault .ensures ∙ ap (λ (l : Lengths). roomFault l (a .lent)) (at-lengths .lengths-at .ensures)) ∙ ap found (c .enum-told .given .1) in
-    sym (most-fine g (most .most-sizes .result) (most .most-sizes .ensures (now (a .points)) (now (a .tangents)) (now (a .widths)) (now (a .banks))) (a .lent) e)
+    sym (at-room .room-fault .ensures ∙ ap (λ (l : Lengths). roomFault l (a .lent)) (at-lengths .lengths-at .ensures))
+    ∙ ap found (c .enum-told .given .1) in
+    sym (most-fine g (most .most-sizes .result)
+    (most .most-sizes .ensures (now (a .points)) (now (a .tangents)) (now (a .widths)) (now (a .banks))) (a .lent) e)
 
 returns-2 : tie.Need-returns-2
 returns-2 c =
     let at-lengths = c .before in
     let counted = at-lengths .before in
-    let start = counted .before .before .before .before .before .before .before .before .before .before .before .before in
-    let a = start .args in let g = given (now (a .points)) (now (a .tangents)) (now (a .widths)) (now (a .banks)) (now (a .lanes)) in
+    let at-most-sizes = counted .before .before .before .before .before .before in
+    let start = at-most-sizes .before .before .before .before .before .before in
+    let a = start .args in
+    let g = given (now (a .points)) (now (a .tangents)) (now (a .widths)) (now (a .banks)) (now (a .lanes)) in
     c .room-fault2 .ensures
-    ∙ ap (λ (l : Lengths). roomFault l (a .lent)) (at-lengths .lengths-at2 .ensures ∙ all-lengths g (counted .totals .result) (counted .totals .ensures))
+    ∙ ap (λ (l : Lengths). roomFault l (a .lent))
+    (at-lengths .lengths-at2 .ensures ∙ all-lengths g (counted .totals .result) (counted .totals .ensures))
 
 pub mesh-room-spec : {M : Type 1} → statement M
 mesh-room-spec =

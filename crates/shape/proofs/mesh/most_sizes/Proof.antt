@@ -30,10 +30,26 @@ abbrev μ-loop : tie.MeasureT-loop
 
 loop-holds : tie.Need-loop-holds Inv-loop μ-loop
 unfolding gather
-loop-holds c = record { enough = λ ps ts ws bs. record { floats = omega arith; index = omega arith; word = omega arith }; floats = omega arith; index = omega arith; word = omega arith; below = omega arith }
+loop-holds c =
+    record {
+      enough = λ ps ts ws bs. record { floats = omega arith; index = omega arith; word = omega arith };
+      floats = omega arith;
+      index = omega arith;
+      word = omega arith;
+      below = omega arith;
+    }
 
 most-lane-requires : tie.Need-most-lane-requires Inv-loop μ-loop
-most-lane-requires c κs = let i = c .before .loop .inv in let a = c .before .before .before .args in (omega (arith, c .before .before .before .pre .0, c .loop-test .taken), any-none (runLong 10 1 (now (a .lanes)) 4096) (c .before .loop .k) (a .n) (c .loop-test .taken) (c .before .before .before .pre .1), omega (arith, i, c .before .before .before .pre .0), omega (arith, i, c .before .before .before .pre .0), omega (arith, i, c .before .before .before .pre .0))
+most-lane-requires c κs =
+    let start = c .before .before .before in
+    let i = c .before .loop .inv in
+    let a = start .args in (
+      omega (arith, start .pre .0, c .loop-test .taken),
+      any-none (runLong 10 1 (now (a .lanes)) 4096) (c .before .loop .k) (a .n) (c .loop-test .taken) (start .pre .1),
+      omega (arith, i, start .pre .0),
+      omega (arith, i, start .pre .0),
+      omega (arith, i, start .pre .0),
+    )
 
 add-k : tie.Need-add-k Inv-loop μ-loop
 add-k c = omega arith
@@ -42,10 +58,13 @@ loop-less : tie.Need-loop-less Inv-loop μ-loop
 loop-less c = omega arith
 
 loop-again : tie.Need-loop-again Inv-loop μ-loop
-loop-again c = let i = c .before .before .loop .inv in
+loop-again c =
+    let start = c .before .before .before .before in
+    let i = c .before .before .loop .inv in
     let t = c .most-lane .ensures in
     record {
-      enough = λ ps ts ws bs. next-enough (given ps ts ws bs (now (c .before .before .before .before .args .lanes))) (c .before .before .loop .k) (c .before .before .loop .at) (c .most-lane .result) (i .enough ps ts ws bs) t;
+      enough = λ ps ts ws bs. next-enough (given ps ts ws bs (now (start .args .lanes))) (c .before .before .loop .k)
+          (c .before .before .loop .at) (c .most-lane .result) (i .enough ps ts ws bs) t;
       floats = omega (arith, i .floats, t .floats, t .few);
       index = omega (arith, i .index, t .index, t .few);
       word = omega (arith, i .word, t .word);

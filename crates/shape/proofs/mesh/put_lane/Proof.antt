@@ -26,7 +26,26 @@ record-word-requires c κs = search needs
 
 put-strip-requires : tie.Need-put-strip-requires
 unfolding laneAt
-put-strip-requires c κs = ((rw (c .before .before .before .before .before .before .before .before .before .before .lane-run .ensures) (run-short (now (c .before .before .before .before .before .before .before .before .before .before .before .before .before .before .before .before .before .before .before .before .before .args .points)) (now (c .before .before .before .before .before .before .before .before .before .before .before .before .before .before .before .before .before .before .before .before .before .args .lanes)) (c .before .before .before .before .before .before .before .before .before .before .before .before .before .before .before .before .before .before .before .before .before .args .k) (c .before .before .before .before .before .before .before .before .before .before .before .before .before .before .before .before .before .before .before .before .before .pre .0 .1)), c .before .before .before .before .before .record-word .ensures .1, c .before .before .before .before .before .before .before .before .before .before .before .before .before .before .before .before .before .before .before .before .before .pre .0 .2), rw (c .before .before .before .before .before .before .before .before .before .before .lane-run .ensures, c .before .before .before .before .before .before .before .before .before .lane-run2 .ensures, c .before .before .before .before .before .before .before .before .lane-run3 .ensures, c .before .before .before .before .before .before .before .lane-run4 .ensures, c .before .before .before .before .before .before .default-width .ensures) (c .before .before .before .before .before .before .before .before .before .before .before .before .before .before .before .before .before .before .before .before .before .pre .1))
+put-strip-requires c κs =
+    let at-record-word = c .before .before .before .before .before in
+    let at-lane-run3 = at-record-word .before .before .before in
+    let at-lane-run = at-lane-run3 .before .before in
+    let at-slice-known = at-lane-run .before .before .before .before .before in
+    let start = at-slice-known .before .before .before .before .before .before in (
+      (
+        rw (at-lane-run .lane-run .ensures)
+            (run-short (now (start .args .points)) (now (start .args .lanes)) (start .args .k) (start .pre .0 .1)),
+        at-record-word .record-word .ensures .1,
+        start .pre .0 .2,
+      ),
+      rw (
+        at-lane-run .lane-run .ensures,
+        at-lane-run3 .before .lane-run2 .ensures,
+        at-lane-run3 .lane-run3 .ensures,
+        at-record-word .before .before .lane-run4 .ensures,
+        at-record-word .before .default-width .ensures,
+      ) (start .pre .1),
+    )
 
 same-length : tie.Need-same-length
 same-length c = search needs
@@ -45,7 +64,19 @@ same-length-5 c = search needs
 
 returns : tie.Need-returns
 unfolding laneAt
-returns c = rw (c .before .before .before .before .before .before .before .before .before .before .before .before .before .before .before .before .before .before .before .before .before .lane-run .ensures, c .before .before .before .before .before .before .before .before .before .before .before .before .before .before .before .before .before .before .before .before .lane-run2 .ensures, c .before .before .before .before .before .before .before .before .before .before .before .before .before .before .before .before .before .before .before .lane-run3 .ensures, c .before .before .before .before .before .before .before .before .before .before .before .before .before .before .before .before .before .before .lane-run4 .ensures, c .before .before .before .before .before .before .before .before .before .before .before .before .before .before .before .before .before .default-width .ensures, c .before .before .before .before .before .before .before .before .before .before .before .before .before .before .before .before .record-word .ensures .0) at (c .before .before .before .before .before .before .before .before .before .before .put-strip .ensures)
+returns c =
+    let at-normals = c .before .before .before .before .before in
+    let at-put-strip = at-normals .before .before .before .before .before in
+    let at-record-word = at-put-strip .before .before .before .before .before .before in
+    let at-lane-run3 = at-record-word .before .before .before in
+    rw (
+      at-lane-run3 .before .before .lane-run .ensures,
+      at-lane-run3 .before .lane-run2 .ensures,
+      at-lane-run3 .lane-run3 .ensures,
+      at-record-word .before .before .lane-run4 .ensures,
+      at-record-word .before .default-width .ensures,
+      at-record-word .record-word .ensures .0,
+    ) at (at-put-strip .put-strip .ensures)
 
 pub put-lane-spec : {M : Type 1} → statement M
 put-lane-spec =

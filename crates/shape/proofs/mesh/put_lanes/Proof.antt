@@ -16,30 +16,74 @@ use Rattle.shape.proofs.mesh.put_lanes.Statement.{statement}
 use Rattle.shape.proofs.mesh.put_lanes.Tie as tie
 
 abbrev Inv-loop : tie.InvT-loop
-Inv-loop points tangents widths banks lanes n vertices₀ normals₀ indices₀ spans₀ kept₀ at₀ k₀ vertices normals indices spans kept at k = Written (given points tangents widths banks lanes) k at vertices₀ vertices normals₀ normals indices₀ indices spans₀ spans × (k ≤ n) × (length kept ≡ 4096)
+Inv-loop points tangents widths banks lanes n vertices₀ normals₀ indices₀ spans₀ kept₀ at₀ k₀ vertices normals indices spans kept at k =
+    Written (given points tangents widths banks lanes) k at vertices₀ vertices normals₀ normals indices₀ indices spans₀ spans × (k ≤ n)
+    × (length kept ≡ 4096)
 
 abbrev μ-loop : tie.MeasureT-loop
 μ-loop points tangents widths banks lanes n vertices₀ normals₀ indices₀ spans₀ kept₀ at₀ k₀ vertices normals indices spans kept at k = n - k
 
 loop-holds : tie.Need-loop-holds Inv-loop μ-loop
 unfolding gather
-loop-holds c = let a = c .before .before .before .before .before .before .before .before .before .args in (record { vertices = put-none (now (a .vertices)) 0; normals = put-none (now (a .normals)) 0; indices = put-none (now (a .indices)) 0; spans = put-none (now (a .spans)) 0 }, omega arith, blank-length)
+loop-holds c =
+    let start = c .before .before .before .before .before .before .before .before .before in
+    let a = start .args in (
+      record {
+        vertices = put-none (now (a .vertices)) 0;
+        normals = put-none (now (a .normals)) 0;
+        indices = put-none (now (a .indices)) 0;
+        spans = put-none (now (a .spans)) 0;
+      },
+      omega arith,
+      blank-length,
+    )
 
 slice-aggregate-put-lane : tie.Need-slice-aggregate-put-lane Inv-loop μ-loop
 slice-aggregate-put-lane c = omega (arith, c .before .before .loop .inv .2)
 
 put-lane-requires : tie.Need-put-lane-requires Inv-loop μ-loop
-put-lane-requires c κs = let a = c .before .before .before .before .before .before .before .before .before .before .before .before .before .before .before .before .args in let g = given (now (a .points)) (now (a .tangents)) (now (a .widths)) (now (a .banks)) (now (a .lanes)) in let at = c .before .before .before .before .before .before .loop in
-    ((omega (arith, c .before .before .before .before .before .before .before .before .before .before .before .before .before .before .before .before .pre .0 .0, c .before .before .before .before .before .loop-test .taken), any-none (runLong 10 1 (now (a .lanes)) 4096) (at .k) (a .n) (c .before .before .before .before .before .loop-test .taken) (c .before .before .before .before .before .before .before .before .before .before .before .before .before .before .before .before .pre .0 .1), at .inv .2), room-at g (at .k) (at .at) (at .inv .0) (a .n) (c .before .before .before .before .before .before .before .before .before .before .before .before .before .before .before .before .pre .1) (c .before .before .before .before .before .loop-test .taken))
+put-lane-requires c κs =
+    let at-loop-test = c .before .before .before .before .before in
+    let at-slice-known = at-loop-test .before .before .before .before .before in
+    let start = at-slice-known .before .before .before .before .before .before in
+    let a = start .args in
+    let g = given (now (a .points)) (now (a .tangents)) (now (a .widths)) (now (a .banks)) (now (a .lanes)) in
+    let at = at-loop-test .before .loop in (
+      (
+        omega (arith, start .pre .0 .0, at-loop-test .loop-test .taken),
+        any-none (runLong 10 1 (now (a .lanes)) 4096) (at .k) (a .n) (at-loop-test .loop-test .taken) (start .pre .0 .1),
+        at .inv .2,
+      ),
+      room-at g (at .k) (at .at) (at .inv .0) (a .n) (start .pre .1) (at-loop-test .loop-test .taken),
+    )
 
 add-k : tie.Need-add-k Inv-loop μ-loop
-add-k c = omega (arith, c .before .before .before .before .before .before .before .before .before .before .before .before .before .before .before .loop-test .taken, c .before .before .before .before .before .before .before .before .before .before .before .before .before .before .before .before .before .before .before .before .before .before .before .before .before .before .pre .0 .0)
+add-k c =
+    let at-put-lane = c .before .before .before .before .before .before .before .before .before in
+    let at-loop-test = at-put-lane .before .before .before .before .before .before in
+    let at-slice-known = at-loop-test .before .before .before .before .before in
+    let start = at-slice-known .before .before .before .before .before .before in
+    omega (arith, at-loop-test .loop-test .taken, start .pre .0 .0)
 
 loop-less : tie.Need-loop-less Inv-loop μ-loop
-loop-less c = omega (arith, c .before .before .before .before .before .before .before .before .before .before .before .before .before .before .before .loop-test .taken)
+loop-less c =
+    let at-put-lane = c .before .before .before .before .before .before .before .before .before in
+    let at-loop-test = at-put-lane .before .before .before .before .before .before in
+    omega (arith, at-loop-test .loop-test .taken)
 
 loop-again : tie.Need-loop-again Inv-loop μ-loop
-loop-again c = let a = c .before .before .before .before .before .before .before .before .before .before .before .before .before .before .before .before .before .before .before .before .before .before .before .before .before .before .args in let g = given (now (a .points)) (now (a .tangents)) (now (a .widths)) (now (a .banks)) (now (a .lanes)) in let at = c .before .before .before .before .before .before .before .before .before .before .before .before .before .before .before .before .loop in (next-written g (at .k) (at .at) (at .inv .0) (c .before .before .before .before .before .before .before .before .before .put-lane .result) (c .before .before .before .before .before .before .before .before .before .put-lane .ensures), omega (arith, c .before .before .before .before .before .before .before .before .before .before .before .before .before .before .before .loop-test .taken), omega (arith, c .before .before .before .before .before .before .before .before .before .put-lane .kept, at .inv .2))
+loop-again c =
+    let at-put-lane = c .before .before .before .before .before .before .before .before .before in
+    let at-loop-test = at-put-lane .before .before .before .before .before .before in
+    let at-slice-known = at-loop-test .before .before .before .before .before in
+    let start = at-slice-known .before .before .before .before .before .before in
+    let a = start .args in
+    let g = given (now (a .points)) (now (a .tangents)) (now (a .widths)) (now (a .banks)) (now (a .lanes)) in
+    let at = at-loop-test .before .loop in (
+      next-written g (at .k) (at .at) (at .inv .0) (at-put-lane .put-lane .result) (at-put-lane .put-lane .ensures),
+      omega (arith, at-loop-test .loop-test .taken),
+      omega (arith, at-put-lane .put-lane .kept, at .inv .2),
+    )
 
 same-length : tie.Need-same-length Inv-loop μ-loop
 same-length c = put-length (c .before .loop .inv .0 .vertices)
@@ -54,7 +98,11 @@ same-length-4 : tie.Need-same-length-4 Inv-loop μ-loop
 same-length-4 c = put-length (c .before .loop .inv .0 .spans)
 
 returns : tie.Need-returns Inv-loop μ-loop
-returns c = let e : c .before .loop .k ≡ c .before .before .before .before .before .before .before .before .before .before .before .args .n = omega (arith, c .before .loop .inv .1) in rw e at (c .before .loop .inv .0)
+returns c =
+    let at-slice-known = c .before .before .before .before .before in
+    let start = at-slice-known .before .before .before .before .before .before in
+    let e : c .before .loop .k ≡ start .args .n = omega (arith, c .before .loop .inv .1) in
+    rw e at (c .before .loop .inv .0)
 
 pub put-lanes-spec : {M : Type 1} → statement M
 put-lanes-spec =

@@ -22,14 +22,31 @@ default-width-requires : tie.Need-default-width-requires
 default-width-requires c κs = search needs
 
 size-strip-requires : tie.Need-size-strip-requires
-size-strip-requires c κs = (rw (c .before .before .before .before .before .lane-run .ensures) (run-short (now (c .before .before .before .before .before .before .before .before .before .before .before .before .args .points)) (now (c .before .before .before .before .before .before .before .before .before .before .before .before .args .lanes)) (c .before .before .before .before .before .before .before .before .before .before .before .before .args .k) (c .before .before .before .before .before .before .before .before .before .before .before .before .pre .1)), c .before .before .before .before .before .before .before .before .before .before .before .before .pre .2, c .before .before .before .before .before .before .before .before .before .before .before .before .pre .3, c .before .before .before .before .before .before .before .before .before .before .before .before .pre .4, c .before .before .before .before .before .before .before .before .before .before .before .before .pre .5)
+size-strip-requires c κs =
+    let at-lane-run = c .before .before .before .before .before in
+    let start = at-lane-run .before .before .before .before .before .before .before in (
+      rw (at-lane-run .lane-run .ensures) (run-short (now (start .args .points)) (now (start .args .lanes)) (start .args .k) (start .pre .1)),
+      start .pre .2,
+      start .pre .3,
+      start .pre .4,
+      start .pre .5,
+    )
 
 same-length : tie.Need-same-length
 same-length c = search needs
 
 returns : tie.Need-returns
 unfolding laneAt
-returns c = rw (c .before .before .before .before .before .before .before .before .lane-run .ensures, c .before .before .before .before .before .before .before .lane-run2 .ensures, c .before .before .before .before .before .before .lane-run3 .ensures, c .before .before .before .before .before .lane-run4 .ensures, c .before .before .before .before .default-width .ensures) at (c .before .before .size-strip .ensures)
+returns c =
+    let at-default-width = c .before .before .before .before in
+    let at-lane-run2 = at-default-width .before .before .before in
+    rw (
+      at-lane-run2 .before .lane-run .ensures,
+      at-lane-run2 .lane-run2 .ensures,
+      at-default-width .before .before .lane-run3 .ensures,
+      at-default-width .before .lane-run4 .ensures,
+      at-default-width .default-width .ensures,
+    ) at (c .before .before .size-strip .ensures)
 
 pub size-lane-spec : {M : Type 1} → statement M
 size-lane-spec =

@@ -23,10 +23,14 @@ unfolding found
 put-lanes-requires c κs =
     let told = c .before .before .before .before in
     let call = told .before .before in
-    let start = call .before .before .before .before .before .before .before .before .before .before in
-    let a = start .args in let g = given (now (a .points)) (now (a .tangents)) (now (a .widths)) (now (a .banks)) (now (a .lanes)) in
-    let e = sym (call .call-fault .ensures) ∙ ap found (told .enum-told .given .1) in
-    (few-lanes g (input-fine g (now (a .vertices)) (now (a .normals)) (now (a .indices)) (now (a .spans)) e), fitting g (now (a .vertices)) (now (a .normals)) (now (a .indices)) (now (a .spans)) e)
+    let at-shared-slice-known5 = call .before .before .before .before .before in
+    let start = at-shared-slice-known5 .before .before .before .before .before in
+    let a = start .args in
+    let g = given (now (a .points)) (now (a .tangents)) (now (a .widths)) (now (a .banks)) (now (a .lanes)) in
+    let e = sym (call .call-fault .ensures) ∙ ap found (told .enum-told .given .1) in (
+      few-lanes g (input-fine g (now (a .vertices)) (now (a .normals)) (now (a .indices)) (now (a .spans)) e),
+      fitting g (now (a .vertices)) (now (a .normals)) (now (a .indices)) (now (a .spans)) e,
+    )
 
 lengths-at-requires : tie.Need-lengths-at-requires
 lengths-at-requires c κs = search needs
@@ -37,9 +41,12 @@ counts-requires c κs = search needs
 returns : tie.Need-returns
 returns c =
     let call = c .before .before .before in
-    let start = call .before .before .before .before .before .before .before .before .before .before in
-    let a = start .args in let g = given (now (a .points)) (now (a .tangents)) (now (a .widths)) (now (a .banks)) (now (a .lanes)) in
-    turned-back g (meshLists (now (a .vertices)) (now (a .normals)) (now (a .indices)) (now (a .spans))) _ (sym (call .call-fault .ensures) ∙ ap found (c .before .f .given .1))
+    let at-shared-slice-known5 = call .before .before .before .before .before in
+    let start = at-shared-slice-known5 .before .before .before .before .before in
+    let a = start .args in
+    let g = given (now (a .points)) (now (a .tangents)) (now (a .widths)) (now (a .banks)) (now (a .lanes)) in
+    turned-back g (meshLists (now (a .vertices)) (now (a .normals)) (now (a .indices)) (now (a .spans))) _
+    (sym (call .call-fault .ensures) ∙ ap found (c .before .f .given .1))
 
 same-length : tie.Need-same-length
 same-length c = search needs
@@ -56,13 +63,17 @@ same-length-4 c = search needs
 returns-2 : tie.Need-returns-2
 unfolding found
 returns-2 c =
-    let put = c .before .before .before .before .before .before .before .before .before .before in
+    let at-indices = c .before .before .before .before .before in
+    let put = at-indices .before .before .before .before .before in
     let told = put .before .before .before .before .before in
     let call = told .before .before in
-    let start = call .before .before .before .before .before .before .before .before .before .before in
-    let a = start .args in let g = given (now (a .points)) (now (a .tangents)) (now (a .widths)) (now (a .banks)) (now (a .lanes)) in
+    let at-shared-slice-known5 = call .before .before .before .before .before in
+    let start = at-shared-slice-known5 .before .before .before .before .before in
+    let a = start .args in
+    let g = given (now (a .points)) (now (a .tangents)) (now (a .widths)) (now (a .banks)) (now (a .lanes)) in
     let e = sym (call .call-fault .ensures) ∙ ap found (told .enum-told .given .1) in
-    made g (now (a .vertices)) (now (a .normals)) (now (a .indices)) (now (a .spans)) e (put .put-lanes .result) (c .counts .result) (c .counts .ensures ∙ ap countsOf (c .before .lengths-at .ensures)) (put .put-lanes .ensures)
+    made g (now (a .vertices)) (now (a .normals)) (now (a .indices)) (now (a .spans)) e (put .put-lanes .result) (c .counts .result)
+    (c .counts .ensures ∙ ap countsOf (c .before .lengths-at .ensures)) (put .put-lanes .ensures)
 
 pub surface-mesh-spec : {M : Type 1} → statement M
 surface-mesh-spec =

@@ -38,7 +38,17 @@ slice-aggregate-size-lane : tie.Need-slice-aggregate-size-lane Inv-loop μ-loop
 slice-aggregate-size-lane c = omega (arith, c .before .before .loop .inv .room)
 
 size-lane-requires : tie.Need-size-lane-requires Inv-loop μ-loop
-size-lane-requires c κs = let i = c .before .before .loop .inv in let a = c .before .before .before .before .before .before .before .before .args in (omega (arith, c .before .before .before .before .before .before .before .before .pre .0, c .before .loop-test .taken), any-none (runLong 10 1 (now (a .lanes)) 4096) (c .before .before .loop .k) (a .n) (c .before .loop-test .taken) (c .before .before .before .before .before .before .before .before .pre .1), i .room, omega (arith, i, c .before .before .before .before .before .before .before .before .pre .0), omega (arith, i, c .before .before .before .before .before .before .before .before .pre .0), omega (arith, i, c .before .before .before .before .before .before .before .before .pre .0))
+size-lane-requires c κs =
+    let start = c .before .before .before .before .before .before .before .before in
+    let i = c .before .before .loop .inv in
+    let a = start .args in (
+      omega (arith, start .pre .0, c .before .loop-test .taken),
+      any-none (runLong 10 1 (now (a .lanes)) 4096) (c .before .before .loop .k) (a .n) (c .before .loop-test .taken) (start .pre .1),
+      i .room,
+      omega (arith, i, start .pre .0),
+      omega (arith, i, start .pre .0),
+      omega (arith, i, start .pre .0),
+    )
 
 add-k : tie.Need-add-k Inv-loop μ-loop
 add-k c = omega arith
@@ -47,10 +57,15 @@ loop-less : tie.Need-loop-less Inv-loop μ-loop
 loop-less c = omega arith
 
 loop-again : tie.Need-loop-again Inv-loop μ-loop
-loop-again c = let a = c .before .before .before .before .before .before .before .before .before .before .args in let g = given (now (a .points)) (now (a .tangents)) (now (a .widths)) (now (a .banks)) (now (a .lanes)) in let i = c .before .before .before .before .loop .inv in
+loop-again c =
+    let at-loop = c .before .before .before .before in
+    let start = at-loop .before .before .before .before .before .before in
+    let a = start .args in
+    let g = given (now (a .points)) (now (a .tangents)) (now (a .widths)) (now (a .banks)) (now (a .lanes)) in
+    let i = at-loop .loop .inv in
     let n = c .before .size-lane .ensures in
     record {
-      sizes = next-sizes g (c .before .before .before .before .loop .k) (c .before .before .before .before .loop .at) (c .before .size-lane .result) (i .sizes) n;
+      sizes = next-sizes g (at-loop .loop .k) (at-loop .loop .at) (c .before .size-lane .result) (i .sizes) n;
       room = omega (arith, c .before .size-lane .kept, i .room);
       floats = omega (arith, i .floats, n .few-floats);
       index = omega (arith, i .index, n .few-index);
@@ -59,7 +74,10 @@ loop-again c = let a = c .before .before .before .before .before .before .before
     }
 
 returns : tie.Need-returns Inv-loop μ-loop
-returns c = let e : c .before .loop .k ≡ c .before .before .before .before .before .before .before .args .n = omega (arith, c .before .loop .inv .most) in rw e at (c .before .loop .inv .sizes)
+returns c =
+    let start = c .before .before .before .before .before .before .before in
+    let e : c .before .loop .k ≡ start .args .n = omega (arith, c .before .loop .inv .most) in
+    rw e at (c .before .loop .inv .sizes)
 
 pub totals-spec : {M : Type 1} → statement M
 totals-spec =

@@ -30,12 +30,14 @@ mul-requires c κs = search needs
 returns : tie.Need-returns
 unfolding alongOf ofBits
 returns c =
-    let s = c .before .before .before .before .before .before .before .before in
-    let near = c .before .before .before .root-near-one in
-    let t = c .before .before .before .before .before .horizontal .result in
-    let e = c .before .before .before .before .before .horizontal .ensures ∙ ap horizontalOf (c .before .before .before .before .before .before .vector-at .ensures) in
+    let at-root-near-one = c .before .before .before in
+    let at-horizontal = at-root-near-one .before .before in
+    let s = at-horizontal .before .before .before in
+    let near = at-root-near-one .root-near-one in
+    let t = at-horizontal .horizontal .result in
+    let e = at-horizontal .horizontal .ensures ∙ ap horizontalOf (at-horizontal .before .vector-at .ensures) in
     let p = near-positive _ (near .result .root) (near .result .is) (near .ensures .0) (near .ensures .1) (c .before .before .if1 .taken) in
-    let h = subst (λ (x : Float). PositiveRoot x (near .result .root)) (c .before .before .before .before .length-squared .ensures) p in
+    let h = subst (λ (x : Float). PositiveRoot x (near .result .root)) (at-root-near-one .before .length-squared .ensures) p in
     let way = normalizeOrZero (vectorAdd (s .args .inc) (s .args .out)) in
     c .mul .ensures ∙ over-root t way (near .result .root) h ∙ ap (λ (v : Vector). normalizeOr v way) e
 
@@ -45,8 +47,9 @@ along-any-requires c κs = search needs
 returns-2 : tie.Need-returns-2
 unfolding alongOf
 returns-2 c =
-    let s = c .before .before .before .before .before .before .before in
-    let e = c .before .before .before .before .horizontal .ensures ∙ ap horizontalOf (c .before .before .before .before .before .vector-at .ensures) in
+    let at-horizontal = c .before .before .before .before in
+    let s = at-horizontal .before .before .before in
+    let e = at-horizontal .horizontal .ensures ∙ ap horizontalOf (at-horizontal .before .vector-at .ensures) in
     c .along-any .ensures ∙ ap (λ (v : Vector). normalizeOr v (normalizeOrZero (vectorAdd (s .args .inc) (s .args .out)))) e
 
 pub along-spec : {M : Type 1} → statement M

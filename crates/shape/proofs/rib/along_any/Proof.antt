@@ -1,5 +1,4 @@
 -- `shape::rib::along_any` meets its contract: the tangent, or the way between the legs. Assumes nothing.
-use mathlib.Core.Path.{sym, _∙_}
 use lib.Ieee.{ofBits}
 use Rattle.vector.specs.Coords.{normalizeOr}
 use borrow.Author.Needs.{needs}
@@ -17,21 +16,27 @@ mul-requires c κs = search needs
 
 returns : tie.Need-returns
 unfolding normalizeOr ofBits
-returns c = rw (← c .before .before .before .before .length .ensures, ← c .before .before .before .is-finite32 .ensures, c .before .before .if1 .taken, c .before .if2 .taken) (c .mul .ensures)
+returns c =
+    let at-is-finite32 = c .before .before .before in
+    rw (← at-is-finite32 .before .length .ensures, ← at-is-finite32 .is-finite32 .ensures, c .before .before .if1 .taken, c .before .if2 .taken)
+    (c .mul .ensures)
 
-between-requires : tie.Need-between-requires
-between-requires c κs = search needs
+bisector-requires : tie.Need-bisector-requires
+bisector-requires c κs = search needs
 
 returns-2 : tie.Need-returns-2
 unfolding normalizeOr ofBits
-returns-2 c = rw (← c .before .before .before .before .length .ensures, ← c .before .before .before .is-finite32 .ensures, c .before .before .if1 .taken, c .before .if2 .left) (c .between .ensures)
+returns-2 c =
+    let at-is-finite32 = c .before .before .before in
+    rw (← at-is-finite32 .before .length .ensures, ← at-is-finite32 .is-finite32 .ensures, c .before .before .if1 .taken, c .before .if2 .left)
+    (c .bisector .ensures)
 
-between-requires-2 : tie.Need-between-requires-2
-between-requires-2 c κs = search needs
+bisector-requires-2 : tie.Need-bisector-requires-2
+bisector-requires-2 c κs = search needs
 
 returns-3 : tie.Need-returns-3
 unfolding normalizeOr ofBits
-returns-3 c = rw (← c .before .before .before .length .ensures, ← c .before .before .is-finite32 .ensures, c .before .if1 .left) (c .between2 .ensures)
+returns-3 c = rw (← c .before .before .before .length .ensures, ← c .before .before .is-finite32 .ensures, c .before .if1 .left) (c .bisector2 .ensures)
 
 pub along-any-spec : {M : Type 1} → statement M
 along-any-spec =
@@ -41,7 +46,7 @@ along-any-spec =
     is-finite32-requires
     mul-requires
     returns
-    between-requires
+    bisector-requires
     returns-2
-    between-requires-2
+    bisector-requires-2
     returns-3)

@@ -16,7 +16,12 @@ length-requires c κs = search needs
 
 returns : tie.Need-returns
 unfolding gradeOf ofBits
-returns c = let e = rw (c .before .before .before .length .ensures, c .before .before .before .before .horizontal .ensures, c .before .before .before .before .before .sub .ensures) at (c .before .before .if1 .taken) in rw (c .before .before .before .length .ensures, c .before .before .before .before .horizontal .ensures, c .before .before .before .before .before .sub .ensures, e)
+returns c =
+    let at-length = c .before .before .before in
+    let at-horizontal = at-length .before in
+    let at-sub = at-horizontal .before in
+    let e = rw (at-length .length .ensures, at-horizontal .horizontal .ensures, at-sub .sub .ensures) at (c .before .before .if1 .taken) in
+    rw (at-length .length .ensures, at-horizontal .horizontal .ensures, at-sub .sub .ensures, e)
 
 returns-2 : tie.Need-returns-2
 unfolding gradeOf ofBits

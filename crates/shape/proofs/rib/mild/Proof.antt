@@ -3,8 +3,6 @@ use mathlib.Core.Path.{_≡_}
 use Prim.Native.Nat.{ℕ}
 use native.Mathlib.Omega.{arith}
 use lib.Ieee.{ofBits}
-use Rattle.shape.specs.MeshSteps.{Mild}
-use borrow.Author.Needs.{needs}
 use Rattle.shape.proofs.rib.mild.Statement.{statement}
 use Rattle.shape.proofs.rib.mild.Tie as tie
 

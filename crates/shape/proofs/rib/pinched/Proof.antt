@@ -1,5 +1,5 @@
 -- `shape::rib::pinched` meets its contract. Assumes nothing.
-use mathlib.Core.Path.{_≡_, sym, ap, _∙_}
+use mathlib.Core.Path.{sym, ap, _∙_}
 use lib.Ieee.{binary32, ofBits}
 use Rattle.rounding.specs.Root.{sqrtOf}
 use Rattle.shape.specs.Strip.{spreadOf, pinches, innerOf, shorterOf, eatOf}
@@ -30,19 +30,49 @@ turns-left-requires c κs = search needs
 
 returns : tie.Need-returns
 unfolding spreadOf pinches innerOf shorterOf eatOf ofBits
-returns c = let e = c .before .before .before .before .before .before .before .before .sqrt32 .ensures ∙ ap (sqrtOf binary32) (c .before .before .before .before .before .before .before .before .before .eat-square .ensures) in let s = rw (c .before .before .before .before .before .before .before .sqrt322 .ensures, c .before .before .before .before .before .before .sqrt323 .ensures) at (c .before .before .before .before .before .min32 .ensures) in let p = rw e at (c .before .before .before .before .if1 .taken) in let q = rw s at (c .before .before .before .if2 .taken) in let t = sym (c .before .turns-left .ensures) ∙ c .if3 .taken in rw (p, q, t, c .before .before .min322 .ensures, e, s)
+returns c =
+    let at-if2 = c .before .before .before in
+    let at-sqrt323 = at-if2 .before .before .before in
+    let at-eat-square = at-sqrt323 .before .before .before in
+    let e = at-sqrt323 .before .before .sqrt32 .ensures ∙ ap (sqrtOf binary32) (at-eat-square .eat-square .ensures) in
+    let s = rw (at-sqrt323 .before .sqrt322 .ensures, at-sqrt323 .sqrt323 .ensures) at (at-if2 .before .before .min32 .ensures) in
+    let p = rw e at (at-if2 .before .if1 .taken) in
+    let q = rw s at (at-if2 .if2 .taken) in
+    let t = sym (c .before .turns-left .ensures) ∙ c .if3 .taken in
+    rw (p, q, t, c .before .before .min322 .ensures, e, s)
 
 returns-2 : tie.Need-returns-2
 unfolding spreadOf pinches innerOf shorterOf eatOf ofBits
-returns-2 c = let e = c .before .before .before .before .before .before .before .before .sqrt32 .ensures ∙ ap (sqrtOf binary32) (c .before .before .before .before .before .before .before .before .before .eat-square .ensures) in let s = rw (c .before .before .before .before .before .before .before .sqrt322 .ensures, c .before .before .before .before .before .before .sqrt323 .ensures) at (c .before .before .before .before .before .min32 .ensures) in let p = rw e at (c .before .before .before .before .if1 .taken) in let q = rw s at (c .before .before .before .if2 .taken) in let t = sym (c .before .turns-left .ensures) ∙ c .if3 .left in rw (p, q, t, c .before .before .min322 .ensures, e, s)
+returns-2 c =
+    let at-if2 = c .before .before .before in
+    let at-sqrt323 = at-if2 .before .before .before in
+    let at-eat-square = at-sqrt323 .before .before .before in
+    let e = at-sqrt323 .before .before .sqrt32 .ensures ∙ ap (sqrtOf binary32) (at-eat-square .eat-square .ensures) in
+    let s = rw (at-sqrt323 .before .sqrt322 .ensures, at-sqrt323 .sqrt323 .ensures) at (at-if2 .before .before .min32 .ensures) in
+    let p = rw e at (at-if2 .before .if1 .taken) in
+    let q = rw s at (at-if2 .if2 .taken) in
+    let t = sym (c .before .turns-left .ensures) ∙ c .if3 .left in
+    rw (p, q, t, c .before .before .min322 .ensures, e, s)
 
 returns-3 : tie.Need-returns-3
 unfolding spreadOf pinches innerOf shorterOf eatOf ofBits
-returns-3 c = let e = c .before .before .before .before .before .sqrt32 .ensures ∙ ap (sqrtOf binary32) (c .before .before .before .before .before .before .eat-square .ensures) in let s = rw (c .before .before .before .before .sqrt322 .ensures, c .before .before .before .sqrt323 .ensures) at (c .before .before .min32 .ensures) in let p = rw e at (c .before .if1 .taken) in let q = rw s at (c .if2 .left) in rw (p, q)
+returns-3 c =
+    let at-sqrt323 = c .before .before .before in
+    let at-eat-square = at-sqrt323 .before .before .before in
+    let e = at-sqrt323 .before .before .sqrt32 .ensures ∙ ap (sqrtOf binary32) (at-eat-square .eat-square .ensures) in
+    let s = rw (at-sqrt323 .before .sqrt322 .ensures, at-sqrt323 .sqrt323 .ensures) at (c .before .before .min32 .ensures) in
+    let p = rw e at (c .before .if1 .taken) in
+    let q = rw s at (c .if2 .left) in
+    rw (p, q)
 
 returns-4 : tie.Need-returns-4
 unfolding spreadOf pinches innerOf shorterOf eatOf ofBits
-returns-4 c = let e = c .before .before .before .before .sqrt32 .ensures ∙ ap (sqrtOf binary32) (c .before .before .before .before .before .eat-square .ensures) in let s = rw (c .before .before .before .sqrt322 .ensures, c .before .before .sqrt323 .ensures) at (c .before .min32 .ensures) in let p = rw e at (c .if1 .left) in rw p
+returns-4 c =
+    let at-sqrt322 = c .before .before .before in
+    let e = at-sqrt322 .before .sqrt32 .ensures ∙ ap (sqrtOf binary32) (at-sqrt322 .before .before .eat-square .ensures) in
+    let s = rw (at-sqrt322 .sqrt322 .ensures, c .before .before .sqrt323 .ensures) at (c .before .min32 .ensures) in
+    let p = rw e at (c .if1 .left) in
+    rw p
 
 pub pinched-spec : {M : Type 1} → statement M
 pinched-spec =

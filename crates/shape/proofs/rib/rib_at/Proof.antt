@@ -43,7 +43,10 @@ kept-point-requires-2 : tie.Need-kept-point-requires-2
 kept-point-requires-2 c κs = search needs
 
 index-after-requires : tie.Need-index-after-requires
-index-after-requires c κs = omega (arith, c .before .before .before .before .before .before .before .before .before .before .before .before .before .before .before .pre .0)
+index-after-requires c κs =
+    let at-along = c .before .before .before .before .before .before .before in
+    let start = at-along .before .before .before .before .before .before .before .before in
+    omega (arith, start .pre .0)
 
 kept-point-requires-3 : tie.Need-kept-point-requires-3
 kept-point-requires-3 c κs = search needs
@@ -71,7 +74,30 @@ normalize-or-requires c κs = search needs
 
 returns : tie.Need-returns
 unfolding upVector
-returns c = let a = c .before .before .before .before .before .before .before .before .before .before .before .before .before .before .before .before .before .before .before .before .before .before .before .before .args in let l = laneOf (now (a .points)) (now (a .tangents)) (now (a .widths)) (now (a .banks)) (a .width) in rw (c .normalize-or .ensures, c .before .cross .ensures, c .before .before .before .sub-vector .ensures, c .before .before .before .before .mul2 .ensures, c .before .before .before .before .before .add .ensures, c .before .before .before .before .before .before .mul .ensures) (rib-made l (now (a .ks)) (a .i) (c .before .before .before .before .before .before .before .before .before .before .before .before .before .before .before .before .before .before .word-at .ensures .0) (c .before .before .before .before .before .before .before .before .before .before .before .before .before .before .before .before .before .kept-point .ensures) (c .before .before .before .before .before .before .before .before .before .before .before .before .before .before .before .before .before .before .before .before .before .before .before .before .pre .1) (c .before .before .before .before .before .before .before .before .before .before .before .before .before .before .before .before .before .before .before .before .before .before .before .before .pre .2) (c .before .before .before .before .before .before .before .before .before .before .before .before .before .before .before .before .along .ensures) (c .before .before .before .before .before .before .before .before .before .before .before .before .before .before .before .left-normal .ensures) (c .before .before .before .before .before .before .before .before .before .before .before .before .before .before .lateral .ensures) (c .before .before .before .before .before .before .before .before .before .before .before .before .before .both .ensures) (c .before .before .before .before .before .before .before .before .before .before .before .before .half-at .ensures) (c .before .before .before .before .before .before .before .before .before .before .before .spread-at .ensures) (c .before .before .before .before .before .before .before .before .before .kept-point2 .ensures ∙ ap (keptPoint (now (a .points)) (now (a .ks))) (c .before .before .before .before .before .before .before .before .before .before .index-before .ensures)) (c .before .before .before .before .before .before .before .kept-point3 .ensures ∙ ap (keptPoint (now (a .points)) (now (a .ks))) (c .before .before .before .before .before .before .before .before .index-after .ensures)) (c .before .before .slope .ensures))
+returns c =
+    let at-sub-vector = c .before .before .before in
+    let at-mul = at-sub-vector .before .before .before in
+    let at-kept-point2 = at-mul .before .before .before in
+    let at-half-at = at-kept-point2 .before .before .before in
+    let at-left-normal = at-half-at .before .before .before in
+    let at-word-at = at-left-normal .before .before .before in
+    let start = at-word-at .before .before .before .before .before .before in
+    let a = start .args in
+    let l = laneOf (now (a .points)) (now (a .tangents)) (now (a .widths)) (now (a .banks)) (a .width) in
+    rw (
+      c .normalize-or .ensures,
+      c .before .cross .ensures,
+      at-sub-vector .sub-vector .ensures,
+      at-sub-vector .before .mul2 .ensures,
+      at-sub-vector .before .before .add .ensures,
+      at-mul .mul .ensures,
+    ) (rib-made l (now (a .ks)) (a .i) (at-word-at .word-at .ensures .0) (at-left-normal .before .before .kept-point .ensures) (start .pre .1)
+    (start .pre .2) (at-left-normal .before .along .ensures) (at-left-normal .left-normal .ensures)
+    (at-half-at .before .before .lateral .ensures) (at-half-at .before .both .ensures) (at-half-at .half-at .ensures)
+    (at-kept-point2 .before .before .spread-at .ensures)
+    (at-kept-point2 .kept-point2 .ensures ∙ ap (keptPoint (now (a .points)) (now (a .ks))) (at-kept-point2 .before .index-before .ensures))
+    (at-mul .before .kept-point3 .ensures ∙ ap (keptPoint (now (a .points)) (now (a .ks))) (at-mul .before .before .index-after .ensures))
+    (c .before .before .slope .ensures))
 
 pub rib-at-spec : {M : Type 1} → statement M
 rib-at-spec =

@@ -1,5 +1,4 @@
 -- `shape::rib::spread_at` meets its contract: at a mild corner nothing is pinched. Assumes nothing.
-use mathlib.Core.Path.{_≡_, refl, sym, _∙_}
 use borrow.Author.Tests.{not-true, not-false}
 use Rattle.shape.specs.Strip.{spreadOf}
 use Rattle.shape.proofs.Corners.{mild-full}
@@ -18,13 +17,21 @@ mild-requires : tie.Need-mild-requires
 mild-requires c κs = search needs
 
 returns-2 : tie.Need-returns-2
-returns-2 c = let a = c .before .before .before .before .before .before .args in rw (not-false (a .corner) (c .before .before .before .before .before .if1 .left)) (mild-full (a .inc) (a .out) (a .left) (a .h) (rw (c .before .before .eat-square .ensures) at (c .before .mild .ensures (c .if2 .taken))))
+returns-2 c =
+    let at-if1 = c .before .before .before .before .before in
+    let start = at-if1 .before in
+    let a = start .args in
+    rw (not-false (a .corner) (at-if1 .if1 .left))
+    (mild-full (a .inc) (a .out) (a .left) (a .h) (rw (c .before .before .eat-square .ensures) at (c .before .mild .ensures (c .if2 .taken))))
 
 pinched-requires : tie.Need-pinched-requires
 pinched-requires c κs = search needs
 
 returns-3 : tie.Need-returns-3
-returns-3 c = rw (not-false (c .before .before .before .before .before .before .before .args .corner) (c .before .before .before .before .before .before .if1 .left)) (c .pinched .ensures)
+returns-3 c =
+    let at-if1 = c .before .before .before .before .before .before in
+    let start = at-if1 .before in
+    rw (not-false (start .args .corner) (at-if1 .if1 .left)) (c .pinched .ensures)
 
 pub spread-at-spec : {M : Type 1} → statement M
 spread-at-spec =

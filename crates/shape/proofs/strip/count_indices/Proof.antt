@@ -46,34 +46,49 @@ add-walk-at c = omega arith
 
 walk-at-requires-2 : tie.Need-walk-at-requires-2 Inv-loop μ-loop
 unfolding walkAt
-walk-at-requires-2 c κs = let at = c .before .before .loop in (omega arith, ap (λ (x : Walk). x .out) (at .inv .here) ∙ leg-next (now (c .before .before .before .before .before .before .before .before .before .before .args .points)) (now (c .before .before .before .before .before .before .before .before .before .before .args .ks)) (at .i) (omega arith))
+walk-at-requires-2 c κs =
+    let at-no-leg = c .before .before .before .before in
+    let start = at-no-leg .before .before .before .before .before .before in
+    let at = c .before .before .loop in (
+      omega arith,
+      ap (λ (x : Walk). x .out) (at .inv .here) ∙ leg-next (now (start .args .points)) (now (start .args .ks)) (at .i) (omega arith),
+    )
 
 count-segment-requires : tie.Need-count-segment-requires Inv-loop μ-loop
 count-segment-requires c κs = search needs
 
 add-q : tie.Need-add-q Inv-loop μ-loop
-add-q c = omega (arith, c .before .before .before .before .before .before .before .before .before .before .before .before .pre, c .before .before .before .before .loop .inv .few, c .count-segment .ensures .1, c .before .before .before .loop-test .taken)
+add-q c =
+    let at-loop-test = c .before .before .before in
+    let start = at-loop-test .before .before .before .before .before .before .before .before .before in
+    omega (arith, start .pre, at-loop-test .before .loop .inv .few, c .count-segment .ensures .1, at-loop-test .loop-test .taken)
 
 add-i : tie.Need-add-i Inv-loop μ-loop
-add-i c = omega (arith, c .before .before .before .before .before .before .before .before .before .before .before .before .pre, c .before .before .before .loop-test .taken)
+add-i c =
+    let at-loop-test = c .before .before .before in
+    let start = at-loop-test .before .before .before .before .before .before .before .before .before in
+    omega (arith, start .pre, at-loop-test .loop-test .taken)
 
 loop-less : tie.Need-loop-less Inv-loop μ-loop
 loop-less c = omega (arith, c .before .before .before .loop-test .taken)
 
 loop-again : tie.Need-loop-again Inv-loop μ-loop
 unfolding walkAt
-loop-again c = let a = c .before .before .before .before .before .before .before .before .before .before .before .before .args in let l = laneOf (now (a .points)) (now (a .tangents)) (now (a .widths)) (now (a .banks)) (a .width) in let at = c .before .before .before .before .loop in
+loop-again c =
+    let at-loop = c .before .before .before .before in
+    let start = at-loop .before .before .before .before .before .before .before .before in
+    let a = start .args in
+    let l = laneOf (now (a .points)) (now (a .tangents)) (now (a .widths)) (now (a .banks)) (a .width) in
+    let at = at-loop .loop in
     record {
-      sum =
-          λ v.
-          rw (
-            gather-next (indicesAt v l (now (a .ks))) (at .i),
-            length-append,
-            ← (at .inv .sum v),
-            ← (ap (λ (x : Walk). x .rib) (at .inv .here)),
-            ← (ap (λ (x : Walk). x .rib) (c .before .walk-at2 .ensures)),
-            ← (c .count-segment .ensures .0 (v + 2 * at .i)),
-          );
+      sum = λ v. rw (
+        gather-next (indicesAt v l (now (a .ks))) (at .i),
+        length-append,
+        ← (at .inv .sum v),
+        ← (ap (λ (x : Walk). x .rib) (at .inv .here)),
+        ← (ap (λ (x : Walk). x .rib) (c .before .walk-at2 .ensures)),
+        ← (c .count-segment .ensures .0 (v + 2 * at .i)),
+      );
       here = c .before .walk-at2 .ensures;
       most = omega arith;
       few = omega (arith, c .count-segment .ensures .1, at .inv .few);
@@ -81,7 +96,10 @@ loop-again c = let a = c .before .before .before .before .before .before .before
 
 returns : tie.Need-returns Inv-loop μ-loop
 unfolding indicesOf
-returns c = let e : c .before .loop .i ≡ length (now (c .before .before .before .before .before .before .before .before .before .args .ks)) - 1 = omega (arith, c .before .loop .inv .most) in (λ v. rw (← e) (c .before .loop .inv .sum v), omega (arith, c .before .loop .inv .few))
+returns c =
+    let start = c .before .before .before .before .before .before .before .before .before in
+    let e : c .before .loop .i ≡ length (now (start .args .ks)) - 1 = omega (arith, c .before .loop .inv .most) in
+    (λ v. rw (← e) (c .before .loop .inv .sum v), omega (arith, c .before .loop .inv .few))
 
 pub count-indices-spec : {M : Type 1} → statement M
 count-indices-spec =

@@ -22,7 +22,17 @@ add-result : tie.Need-add-result
 add-result c = search needs
 
 returns : tie.Need-returns
-returns c = (λ v. rw (segment-length, ← (c .before .before .before .no-area .ensures), ← (c .before .no-area2 .ensures), ← (c .before .before .count-triangle .ensures .0 v (v + 1) (v + 3)), ← (c .count-triangle2 .ensures .0 v (v + 3) (v + 2))), omega arith)
+returns c =
+    let at-no-area = c .before .before .before in (
+      λ v. rw (
+        segment-length,
+        ← (at-no-area .no-area .ensures),
+        ← (c .before .no-area2 .ensures),
+        ← (c .before .before .count-triangle .ensures .0 v (v + 1) (v + 3)),
+        ← (c .count-triangle2 .ensures .0 v (v + 3) (v + 2)),
+      ),
+      omega arith,
+    )
 
 pub count-segment-spec : {M : Type 1} → statement M
 count-segment-spec =

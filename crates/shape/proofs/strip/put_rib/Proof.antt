@@ -18,7 +18,11 @@ same-length-2 c = search needs
 
 returns : tie.Need-returns
 unfolding sixOf upsOf
-returns c = (record { memory = c .before .before .before .before .before .before .put-six .ensures .memory; ends = c .before .before .put-ups .ensures .ends }, c .before .before .put-ups .ensures)
+returns c =
+    let at-put-six = c .before .before .before .before .before .before in (
+      record { memory = at-put-six .put-six .ensures .memory; ends = c .before .before .put-ups .ensures .ends },
+      c .before .before .put-ups .ensures,
+    )
 
 pub put-rib-spec : {M : Type 1} → statement M
 put-rib-spec =

@@ -29,14 +29,23 @@ add-put-triangle-4 : tie.Need-add-put-triangle-4
 add-put-triangle-4 c = search needs
 
 put-triangle-requires-2 : tie.Need-put-triangle-requires-2
-put-triangle-requires-2 c κs = let a = c .before .before .before .before .before .before .before .before .args in let e = rw (c .before .before .before .before .before .no-area .ensures) at (c .before .before .before .before .put-triangle .ensures .ends) in rw (c .no-area2 .ensures) (omega (arith, segment-length (a .v) (a .a) (a .b), put-length (c .before .before .before .before .put-triangle .ensures)))
+put-triangle-requires-2 c κs =
+    let at-put-triangle = c .before .before .before .before in
+    let start = at-put-triangle .before .before .before .before in
+    let a = start .args in
+    let e = rw (at-put-triangle .before .no-area .ensures) at (at-put-triangle .put-triangle .ensures .ends) in
+    rw (c .no-area2 .ensures) (omega (arith, segment-length (a .v) (a .a) (a .b), put-length (at-put-triangle .put-triangle .ensures)))
 
 same-length : tie.Need-same-length
 same-length c = search needs
 
 returns : tie.Need-returns
 unfolding segmentOf
-returns c = put-then (rw (c .before .before .before .before .before .before .before .before .no-area .ensures) at (c .before .before .before .before .before .before .before .put-triangle .ensures)) (rw (c .before .before .before .no-area2 .ensures) at (c .before .before .put-triangle2 .ensures))
+returns c =
+    let at-no-area2 = c .before .before .before in
+    let at-put-triangle = at-no-area2 .before .before .before .before in
+    put-then (rw (at-put-triangle .before .no-area .ensures) at (at-put-triangle .put-triangle .ensures))
+    (rw (at-no-area2 .no-area2 .ensures) at (c .before .before .put-triangle2 .ensures))
 
 pub put-segment-spec : {M : Type 1} → statement M
 put-segment-spec =

@@ -39,7 +39,21 @@ same-length : tie.Need-same-length
 same-length c = search needs
 
 returns : tie.Need-returns
-returns c = record { memory = rw (c .before .before .put-word5 .ensures, c .before .before .before .before .before .before .put-word4 .ensures, c .before .before .before .before .before .before .before .before .before .before .put-word3 .ensures, c .before .before .before .before .before .before .before .before .before .before .before .before .before .before .put-word2 .ensures, c .before .before .before .before .before .before .before .before .before .before .before .before .before .before .before .before .before .before .put-word .ensures) (simp towards-suc); ends = refl }
+returns c =
+    let at-put-word4 = c .before .before .before .before .before .before in
+    let at-put-word3 = at-put-word4 .before .before .before .before in
+    let at-put-word2 = at-put-word3 .before .before .before .before in
+    let at-put-word = at-put-word2 .before .before .before .before in
+    record {
+      memory = rw (
+        c .before .before .put-word5 .ensures,
+        at-put-word4 .put-word4 .ensures,
+        at-put-word3 .put-word3 .ensures,
+        at-put-word2 .put-word2 .ensures,
+        at-put-word .put-word .ensures,
+      ) (simp towards-suc);
+      ends = refl;
+    }
 
 pub put-span-spec : {M : Type 1} → statement M
 put-span-spec =

@@ -28,23 +28,62 @@ same-length c = search needs
 
 returns : tie.Need-returns
 unfolding kept
-returns c = let a = c .before .before .before .before .before .before .before .before .before .before .before .before .before .before .args in let l = laneOf (now (a .points)) (now (a .tangents)) (now (a .widths)) (now (a .banks)) (a .width) in wrote-none l (a .id) (a .at) (now (a .vertices)) (now (a .normals)) (now (a .indices)) (now (a .spans)) (sym (c .before .before .before .weld .ensures .0 .ends ∙ zero-add (length (kept l))) ∙ c .if1 .taken)
+returns c =
+    let at-weld = c .before .before .before in
+    let at-slice-known2 = at-weld .before .before .before .before .before in
+    let start = at-slice-known2 .before .before .before .before .before .before in
+    let a = start .args in
+    let l = laneOf (now (a .points)) (now (a .tangents)) (now (a .widths)) (now (a .banks)) (a .width) in
+    wrote-none l (a .id) (a .at) (now (a .vertices)) (now (a .normals)) (now (a .indices)) (now (a .spans))
+    (sym (at-weld .weld .ensures .0 .ends ∙ zero-add (length (kept l))) ∙ c .if1 .taken)
 
 slice-reshare-prefix-ks : tie.Need-slice-reshare-prefix-ks
 slice-reshare-prefix-ks c = search needs
 
 slice-aggregate-ks : tie.Need-slice-aggregate-ks
-slice-aggregate-ks c = let p = c .before .before .before .before .weld .ensures .0 in let e = put-front p (omega (arith, c .before .before .before .before .before .before .before .before .before .before .before .before .before .before .before .pre .0 .2, c .before .before .before .before .weld .ensures .1)) in rw e (p .ends ∙ zero-add _)
+slice-aggregate-ks c =
+    let at-weld = c .before .before .before .before in
+    let at-slice-known2 = at-weld .before .before .before .before .before in
+    let start = at-slice-known2 .before .before .before .before .before .before in
+    let p = at-weld .weld .ensures .0 in
+    let e = put-front p (omega (arith, start .pre .0 .2, at-weld .weld .ensures .1)) in
+    rw e (p .ends ∙ zero-add _)
 
 put-ribs-requires : tie.Need-put-ribs-requires
 unfolding kept
-put-ribs-requires c κs = let a = c .before .before .before .before .before .before .before .before .before .before .before .before .before .before .before .before .before .before .args in let l = laneOf (now (a .points)) (now (a .tangents)) (now (a .widths)) (now (a .banks)) (a .width) in let ks = take (c .before .before .before .before .before .before .before .weld .result) (c .before .before .before .before .before .before .before .weld .last .1 .0) in
-    let e : ks ≡ kept l = put-front (c .before .before .before .before .before .before .before .weld .ensures .0) (omega (arith, c .before .before .before .before .before .before .before .before .before .before .before .before .before .before .before .before .before .before .pre .0 .2, c .before .before .before .before .before .before .before .weld .ensures .1)) in let some : length ks ≡ 0 → ⊥ = λ z. c .before .before .before .before .if1 .left (c .before .before .before .before .before .before .before .weld .ensures .0 .ends ∙ zero-add (length (kept l)) ∙ ap length (sym e) ∙ z) in let room = ribs-room l (a .at) (now (a .vertices)) (now (a .normals)) (now (a .indices)) (now (a .spans)) (c .before .before .before .before .before .before .before .before .before .before .before .before .before .before .before .before .before .before .pre .1) ks e in ((omega (arith, some-length ks some), room .0, room .1, room .2), indices-room l (a .at) (now (a .vertices)) (now (a .normals)) (now (a .indices)) (now (a .spans)) (c .before .before .before .before .before .before .before .before .before .before .before .before .before .before .before .before .before .before .pre .1) ks e)
+put-ribs-requires c κs =
+    let at-if1 = c .before .before .before .before in
+    let at-weld = at-if1 .before .before .before in
+    let at-slice-known2 = at-weld .before .before .before .before .before in
+    let start = at-slice-known2 .before .before .before .before .before .before in
+    let a = start .args in
+    let l = laneOf (now (a .points)) (now (a .tangents)) (now (a .widths)) (now (a .banks)) (a .width) in
+    let ks = take (at-weld .weld .result) (at-weld .weld .last .1 .0) in
+    let e : ks ≡ kept l = put-front (at-weld .weld .ensures .0) (omega (arith, start .pre .0 .2, at-weld .weld .ensures .1)) in
+    let some : length ks ≡ 0 → ⊥ =
+    λ z. at-if1 .if1 .left (at-weld .weld .ensures .0 .ends ∙ zero-add (length (kept l)) ∙ ap length (sym e) ∙ z) in
+    let room = ribs-room l (a .at) (now (a .vertices)) (now (a .normals)) (now (a .indices)) (now (a .spans)) (start .pre .1) ks e in (
+      (omega (arith, some-length ks some), room .0, room .1, room .2),
+      indices-room l (a .at) (now (a .vertices)) (now (a .normals)) (now (a .indices)) (now (a .spans)) (start .pre .1) ks e,
+    )
 
 put-span-requires : tie.Need-put-span-requires
 unfolding kept
-put-span-requires c κs = let a = c .before .before .before .before .before .before .before .before .before .before .before .before .before .before .before .before .before .before .before .before .before .before .before .before .before .before .before .before .args in let l = laneOf (now (a .points)) (now (a .tangents)) (now (a .widths)) (now (a .banks)) (a .width) in let ks = take (c .before .before .before .before .before .before .before .before .before .before .before .before .before .before .before .before .before .weld .result) (c .before .before .before .before .before .before .before .before .before .before .before .before .before .before .before .before .before .weld .last .1 .0) in
-    let e : ks ≡ kept l = put-front (c .before .before .before .before .before .before .before .before .before .before .before .before .before .before .before .before .before .weld .ensures .0) (omega (arith, c .before .before .before .before .before .before .before .before .before .before .before .before .before .before .before .before .before .before .before .before .before .before .before .before .before .before .before .before .pre .0 .2, c .before .before .before .before .before .before .before .before .before .before .before .before .before .before .before .before .before .weld .ensures .1)) in let some : length ks ≡ 0 → ⊥ = λ z. c .before .before .before .before .before .before .before .before .before .before .before .before .before .before .if1 .left (c .before .before .before .before .before .before .before .before .before .before .before .before .before .before .before .before .before .weld .ensures .0 .ends ∙ zero-add (length (kept l)) ∙ ap length (sym e) ∙ z) in span-room l (a .at) (now (a .vertices)) (now (a .normals)) (now (a .indices)) (now (a .spans)) (c .before .before .before .before .before .before .before .before .before .before .before .before .before .before .before .before .before .before .before .before .before .before .before .before .before .before .before .before .pre .1) ks e (a .id) (c .before .before .before .before .before .before .before .before .before .put-ribs .result .floats) (c .before .before .before .before .before .before .before .before .before .put-ribs .result .index) some (c .before .before .before .before .before .before .before .before .before .before .before .before .before .before .before .before .before .before .before .before .before .before .before .before .before .before .before .before .pre .0 .1) (c .before .before .before .before .before .before .before .before .before .put-ribs .ensures .0 .ends) (c .before .before .before .before .before .before .before .before .before .put-ribs .ensures .2 .ends)
+put-span-requires c κs =
+    let at-put-ribs = c .before .before .before .before .before .before .before .before .before in
+    let at-if1 = at-put-ribs .before .before .before .before .before in
+    let at-weld = at-if1 .before .before .before in
+    let at-slice-known2 = at-weld .before .before .before .before .before in
+    let start = at-slice-known2 .before .before .before .before .before .before in
+    let a = start .args in
+    let l = laneOf (now (a .points)) (now (a .tangents)) (now (a .widths)) (now (a .banks)) (a .width) in
+    let ks = take (at-weld .weld .result) (at-weld .weld .last .1 .0) in
+    let e : ks ≡ kept l = put-front (at-weld .weld .ensures .0) (omega (arith, start .pre .0 .2, at-weld .weld .ensures .1)) in
+    let some : length ks ≡ 0 → ⊥ =
+    λ z. at-if1 .if1 .left (at-weld .weld .ensures .0 .ends ∙ zero-add (length (kept l)) ∙ ap length (sym e) ∙ z) in
+    span-room l (a .at) (now (a .vertices)) (now (a .normals)) (now (a .indices)) (now (a .spans)) (start .pre .1) ks e (a .id)
+    (at-put-ribs .put-ribs .result .floats) (at-put-ribs .put-ribs .result .index) some (start .pre .0 .1)
+    (at-put-ribs .put-ribs .ensures .0 .ends) (at-put-ribs .put-ribs .ensures .2 .ends)
 
 same-length-2 : tie.Need-same-length-2
 same-length-2 c = search needs
@@ -63,8 +102,22 @@ same-length-6 c = search needs
 
 returns-2 : tie.Need-returns-2
 unfolding kept
-returns-2 c = let a = c .before .before .before .before .before .before .before .before .before .before .before .before .before .before .before .before .before .before .before .before .before .before .before .before .before .before .before .before .before .before .before .args in let l = laneOf (now (a .points)) (now (a .tangents)) (now (a .widths)) (now (a .banks)) (a .width) in let ks = take (c .before .before .before .before .before .before .before .before .before .before .before .before .before .before .before .before .before .before .before .before .weld .result) (c .before .before .before .before .before .before .before .before .before .before .before .before .before .before .before .before .before .before .before .before .weld .last .1 .0) in
-    let e : ks ≡ kept l = put-front (c .before .before .before .before .before .before .before .before .before .before .before .before .before .before .before .before .before .before .before .before .weld .ensures .0) (omega (arith, c .before .before .before .before .before .before .before .before .before .before .before .before .before .before .before .before .before .before .before .before .before .before .before .before .before .before .before .before .before .before .before .pre .0 .2, c .before .before .before .before .before .before .before .before .before .before .before .before .before .before .before .before .before .before .before .before .weld .ensures .1)) in let some : length ks ≡ 0 → ⊥ = λ z. c .before .before .before .before .before .before .before .before .before .before .before .before .before .before .before .before .before .if1 .left (c .before .before .before .before .before .before .before .before .before .before .before .before .before .before .before .before .before .before .before .before .weld .ensures .0 .ends ∙ zero-add (length (kept l)) ∙ ap length (sym e) ∙ z) in wrote l (a .at) ks e (a .id) (c .before .before .before .before .before .before .before .before .before .before .before .before .put-ribs .result .floats) (c .before .before .before .before .before .before .before .before .before .before .before .before .put-ribs .result .index) (c .before .before .put-span .result) some (c .before .before .before .before .before .before .before .before .before .before .before .before .put-ribs .ensures .0) (c .before .before .before .before .before .before .before .before .before .before .before .before .put-ribs .ensures .1) (c .before .before .before .before .before .before .before .before .before .before .before .before .put-ribs .ensures .2) (c .before .before .put-span .ensures)
+returns-2 c =
+    let at-indices = c .before .before .before .before .before .before .before in
+    let at-put-ribs = at-indices .before .before .before .before .before in
+    let at-if1 = at-put-ribs .before .before .before .before .before in
+    let at-weld = at-if1 .before .before .before in
+    let at-slice-known2 = at-weld .before .before .before .before .before in
+    let start = at-slice-known2 .before .before .before .before .before .before in
+    let a = start .args in
+    let l = laneOf (now (a .points)) (now (a .tangents)) (now (a .widths)) (now (a .banks)) (a .width) in
+    let ks = take (at-weld .weld .result) (at-weld .weld .last .1 .0) in
+    let e : ks ≡ kept l = put-front (at-weld .weld .ensures .0) (omega (arith, start .pre .0 .2, at-weld .weld .ensures .1)) in
+    let some : length ks ≡ 0 → ⊥ =
+    λ z. at-if1 .if1 .left (at-weld .weld .ensures .0 .ends ∙ zero-add (length (kept l)) ∙ ap length (sym e) ∙ z) in
+    wrote l (a .at) ks e (a .id) (at-put-ribs .put-ribs .result .floats) (at-put-ribs .put-ribs .result .index)
+    (c .before .before .put-span .result) some (at-put-ribs .put-ribs .ensures .0) (at-put-ribs .put-ribs .ensures .1)
+    (at-put-ribs .put-ribs .ensures .2) (c .before .before .put-span .ensures)
 
 pub put-strip-spec : {M : Type 1} → statement M
 put-strip-spec =

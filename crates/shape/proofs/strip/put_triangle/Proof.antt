@@ -26,13 +26,21 @@ add-put-word : tie.Need-add-put-word
 add-put-word c = search needs
 
 put-word-requires-2 : tie.Need-put-word-requires-2
-put-word-requires-2 c κs = let h = room _ _ _ _ _ _ (c .before .before .before .before .before .if1 .left) (c .before .before .before .before .before .before .before .pre .0) in omega arith
+put-word-requires-2 c κs =
+    let at-if1 = c .before .before .before .before .before in
+    let start = at-if1 .before .before in
+    let h = room _ _ _ _ _ _ (at-if1 .if1 .left) (start .pre .0) in
+    omega arith
 
 add-put-word-2 : tie.Need-add-put-word-2
 add-put-word-2 c = search needs
 
 put-word-requires-3 : tie.Need-put-word-requires-3
-put-word-requires-3 c κs = let h = room _ _ _ _ _ _ (c .before .before .before .before .before .before .before .before .before .if1 .left) (c .before .before .before .before .before .before .before .before .before .before .before .pre .0) in omega arith
+put-word-requires-3 c κs =
+    let at-if1 = c .before .before .before .before .before .before .before .before .before in
+    let start = at-if1 .before .before in
+    let h = room _ _ _ _ _ _ (at-if1 .if1 .left) (start .pre .0) in
+    omega arith
 
 add-result : tie.Need-add-result
 add-result c = search needs
@@ -42,7 +50,14 @@ same-length c = search needs
 
 returns-2 : tie.Need-returns-2
 unfolding triangleOf
-returns-2 c = rw (c .before .before .before .before .before .before .before .before .before .before .before .before .if1 .left) (record { memory = rw (c .before .before .put-word3 .ensures, c .before .before .before .before .before .before .put-word2 .ensures, c .before .before .before .before .before .before .before .before .before .before .put-word .ensures) (simp towards-suc); ends = refl })
+returns-2 c =
+    let at-put-word2 = c .before .before .before .before .before .before in
+    let at-put-word = at-put-word2 .before .before .before .before in
+    rw (at-put-word .before .before .if1 .left) (record {
+      memory = rw (c .before .before .put-word3 .ensures, at-put-word2 .put-word2 .ensures, at-put-word .put-word .ensures)
+          (simp towards-suc);
+      ends = refl;
+    })
 
 pub put-triangle-spec : {M : Type 1} → statement M
 put-triangle-spec =

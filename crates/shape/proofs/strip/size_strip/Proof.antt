@@ -18,7 +18,12 @@ slice-reshare-prefix-ks : tie.Need-slice-reshare-prefix-ks
 slice-reshare-prefix-ks c = search needs
 
 slice-aggregate-ks : tie.Need-slice-aggregate-ks
-slice-aggregate-ks c = let p = c .before .before .before .weld .ensures .0 in let e = put-front p (omega (arith, c .before .before .before .before .before .before .before .before .before .before .pre .1, c .before .before .before .weld .ensures .1)) in rw e (p .ends ∙ zero-add _)
+slice-aggregate-ks c =
+    let at-weld = c .before .before .before in
+    let start = at-weld .before .before .before .before .before .before .before in
+    let p = at-weld .weld .ensures .0 in
+    let e = put-front p (omega (arith, start .pre .1, at-weld .weld .ensures .1)) in
+    rw e (p .ends ∙ zero-add _)
 
 count-indices-requires : tie.Need-count-indices-requires
 count-indices-requires c κs = simp length-take (omega (arith, c .before .before .before .weld .ensures .1))
@@ -43,7 +48,16 @@ same-length c = search needs
 
 returns : tie.Need-returns
 unfolding kept
-returns c = let a = c .before .before .before .before .before .before .before .before .before .before .before .before .before .before .before .args in let l = laneOf (now (a .points)) (now (a .tangents)) (now (a .widths)) (now (a .banks)) (a .width) in grow l (now (a .kept)) (c .before .before .before .before .before .before .before .before .weld .last .1 .0) (c .before .before .before .before .before .before .before .before .weld .result) (a .at) (c .before .before .before .before .count-indices .result) (c .before .span-size .result) (c .before .before .before .before .before .before .before .before .weld .ensures .0) (c .before .before .before .before .before .before .before .before .weld .ensures .1) (c .before .before .before .before .before .before .before .before .before .before .before .before .before .before .before .pre .1) (c .before .before .before .before .count-indices .ensures .0) (c .before .before .before .before .count-indices .ensures .1) (c .before .span-size .ensures .0) (c .before .span-size .ensures .1)
+returns c =
+    let at-count-indices = c .before .before .before .before in
+    let at-weld = at-count-indices .before .before .before .before in
+    let start = at-weld .before .before .before .before .before .before .before in
+    let a = start .args in
+    let l = laneOf (now (a .points)) (now (a .tangents)) (now (a .widths)) (now (a .banks)) (a .width) in
+    grow l (now (a .kept)) (at-weld .weld .last .1 .0) (at-weld .weld .result) (a .at) (at-count-indices .count-indices .result)
+    (c .before .span-size .result) (at-weld .weld .ensures .0) (at-weld .weld .ensures .1) (start .pre .1)
+    (at-count-indices .count-indices .ensures .0) (at-count-indices .count-indices .ensures .1) (c .before .span-size .ensures .0)
+    (c .before .span-size .ensures .1)
 
 pub size-strip-spec : {M : Type 1} → statement M
 size-strip-spec =

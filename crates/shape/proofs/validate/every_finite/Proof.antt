@@ -39,7 +39,14 @@ loop-less : tie.Need-loop-less Inv-loop μ-loop
 loop-less c = omega arith
 
 loop-again : tie.Need-loop-again Inv-loop μ-loop
-loop-again c = let l = c .before .before .before .before .loop in (finite-next (now (c .before .before .before .before .before .before .args .xs)) (l .i) (l .ok) (c .before .is-finite32 .result) (c .both .result) (l .inv .0) (c .before .is-finite32 .ensures) (c .both .ensures), omega arith)
+loop-again c =
+    let at-loop = c .before .before .before .before in
+    let start = at-loop .before .before in
+    let l = at-loop .loop in (
+      finite-next (now (start .args .xs)) (l .i) (l .ok) (c .before .is-finite32 .result) (c .both .result) (l .inv .0)
+          (c .before .is-finite32 .ensures) (c .both .ensures),
+      omega arith,
+    )
 
 returns : tie.Need-returns Inv-loop μ-loop
 returns c = let l = c .before .loop in let e : l .i ≡ length (now (c .before .before .before .args .xs)) = omega (arith, l .inv .1) in rw e at (l .inv .0)

@@ -26,7 +26,14 @@ whole-faulty-requires : tie.Need-whole-faulty-requires Inv-loop μ-loop
 whole-faulty-requires c κs = (refl, omega arith)
 
 returns : tie.Need-returns Inv-loop μ-loop
-returns c = let a = c .before .before .before .before .before .before .args in let f = faultyAt (now (a .vertices)) (now (a .indices)) in let l = c .before .before .before .loop in least-at f (triplesOf (now (a .indices))) (l .t) (omega arith) (λ j h. any-none f j (l .t) h (l .inv .0)) (sym (c .before .whole-faulty .ensures) ∙ c .if1 .taken)
+returns c =
+    let at-loop = c .before .before .before in
+    let start = at-loop .before .before .before in
+    let a = start .args in
+    let f = faultyAt (now (a .vertices)) (now (a .indices)) in
+    let l = at-loop .loop in
+    least-at f (triplesOf (now (a .indices))) (l .t) (omega arith) (λ j h. any-none f j (l .t) h (l .inv .0))
+    (sym (c .before .whole-faulty .ensures) ∙ c .if1 .taken)
 
 add-t : tie.Need-add-t Inv-loop μ-loop
 add-t c = omega arith
@@ -35,10 +42,21 @@ loop-less : tie.Need-loop-less Inv-loop μ-loop
 loop-less c = omega arith
 
 loop-again : tie.Need-loop-again Inv-loop μ-loop
-loop-again c = let a = c .before .before .before .before .before .before .args in let f = faultyAt (now (a .vertices)) (now (a .indices)) in let l = c .before .before .before .loop in (rw (any-next f (l .t), l .inv .0) (sym (c .before .whole-faulty .ensures) ∙ c .if1 .left), omega arith)
+loop-again c =
+    let at-loop = c .before .before .before in
+    let start = at-loop .before .before .before in
+    let a = start .args in
+    let f = faultyAt (now (a .vertices)) (now (a .indices)) in
+    let l = at-loop .loop in
+    (rw (any-next f (l .t), l .inv .0) (sym (c .before .whole-faulty .ensures) ∙ c .if1 .left), omega arith)
 
 returns-2 : tie.Need-returns-2 Inv-loop μ-loop
-returns-2 c = let a = c .before .before .before .before .args in let l = c .before .loop in let e : l .t ≡ length (now (a .indices)) / 3 = omega (arith, l .inv .1) in whole-least (now (a .vertices)) (now (a .indices)) (rw e at (l .inv .0))
+returns-2 c =
+    let start = c .before .before .before .before in
+    let a = start .args in
+    let l = c .before .loop in
+    let e : l .t ≡ length (now (a .indices)) / 3 = omega (arith, l .inv .1) in
+    whole-least (now (a .vertices)) (now (a .indices)) (rw e at (l .inv .0))
 
 pub first-faulty-spec : {M : Type 1} → statement M
 first-faulty-spec =

@@ -31,11 +31,35 @@ no-area-requires c κs = search needs
 
 returns-4 : tie.Need-returns-4
 unfolding flatOr
-returns-4 c = rw (ne-eqb _ _ (c .before .before .before .before .before .before .before .if1 .left), ne-eqb _ _ (c .before .before .before .before .before .before .if2 .left), ne-eqb _ _ (c .before .before .before .before .before .if3 .left), ← (c .before .before .before .before .point-at .ensures), ← (c .before .before .before .point-at2 .ensures), ← (c .before .before .point-at3 .ensures), ← (c .before .no-area .ensures), c .if4 .taken)
+returns-4 c =
+    let at-point-at2 = c .before .before .before in
+    let at-if2 = at-point-at2 .before .before .before in
+    rw (
+      ne-eqb _ _ (at-if2 .before .if1 .left),
+      ne-eqb _ _ (at-if2 .if2 .left),
+      ne-eqb _ _ (at-point-at2 .before .before .if3 .left),
+      ← (at-point-at2 .before .point-at .ensures),
+      ← (at-point-at2 .point-at2 .ensures),
+      ← (c .before .before .point-at3 .ensures),
+      ← (c .before .no-area .ensures),
+      c .if4 .taken,
+    )
 
 returns-5 : tie.Need-returns-5
 unfolding flatOr
-returns-5 c = rw (ne-eqb _ _ (c .before .before .before .before .before .before .before .if1 .left), ne-eqb _ _ (c .before .before .before .before .before .before .if2 .left), ne-eqb _ _ (c .before .before .before .before .before .if3 .left), ← (c .before .before .before .before .point-at .ensures), ← (c .before .before .before .point-at2 .ensures), ← (c .before .before .point-at3 .ensures), ← (c .before .no-area .ensures), c .if4 .left)
+returns-5 c =
+    let at-point-at2 = c .before .before .before in
+    let at-if2 = at-point-at2 .before .before .before in
+    rw (
+      ne-eqb _ _ (at-if2 .before .if1 .left),
+      ne-eqb _ _ (at-if2 .if2 .left),
+      ne-eqb _ _ (at-point-at2 .before .before .if3 .left),
+      ← (at-point-at2 .before .point-at .ensures),
+      ← (at-point-at2 .point-at2 .ensures),
+      ← (c .before .before .point-at3 .ensures),
+      ← (c .before .no-area .ensures),
+      c .if4 .left,
+    )
 
 pub flat-or-fine-spec : {M : Type 1} → statement M
 flat-or-fine-spec =

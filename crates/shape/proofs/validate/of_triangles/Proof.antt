@@ -14,12 +14,12 @@ add-if1 c = search needs
 examine-requires : tie.Need-examine-requires
 examine-requires c κs = search needs
 
-told-requires : tie.Need-told-requires
-told-requires c κs = search needs
+verdict-of-requires : tie.Need-verdict-of-requires
+verdict-of-requires c κs = search needs
 
 returns : tie.Need-returns
 unfolding ofTriangles
-returns c = rw (← (c .before .before .before .first-faulty .ensures), lt-ltb _ _ (c .before .before .if1 .taken), ← (c .before .examine .ensures)) (c .told .ensures)
+returns c = rw (← (c .before .before .before .first-faulty .ensures), lt-ltb _ _ (c .before .before .if1 .taken), ← (c .before .examine .ensures)) (c .verdict-of .ensures)
 
 returns-2 : tie.Need-returns-2
 unfolding ofTriangles readVerdict
@@ -28,4 +28,4 @@ returns-2 c = rw (← (c .before .first-faulty .ensures), le-ltb _ _ (c .if1 .le
 pub of-triangles-spec : {M : Type 1} → statement M
 of-triangles-spec =
     tie.close
-    (tie.spec first-faulty-requires add-if1 examine-requires told-requires returns returns-2)
+    (tie.spec first-faulty-requires add-if1 examine-requires verdict-of-requires returns returns-2)

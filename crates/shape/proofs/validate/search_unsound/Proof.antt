@@ -1,6 +1,6 @@
 -- `shape::validate::search_unsound` meets its contract: every vertex before i is finite. Assumes nothing.
-use mathlib.Core.Path.{_≡_, refl, sym, ap, _∙_}
-use mathlib.Core.Bool.{Bool, false, not}
+use mathlib.Core.Path.{_≡_, refl}
+use mathlib.Core.Bool.{false}
 use Prim.Native.Nat.{_-_, _/_, _≤_}
 use native.Mathlib.Omega.{arith}
 use denote.Ref.{now}
@@ -30,7 +30,13 @@ is-finite-requires c κs = search needs
 
 returns : tie.Need-returns Inv-loop μ-loop
 unfolding unsound
-returns c = let vs = now (c .before .before .before .before .before .before .args .vertices) in let l = c .before .before .before .before .loop in least-at (unsound vs) (length vs / 3) (l .i) (omega arith) (λ j h. any-none (unsound vs) j (l .i) h (l .inv .0)) (rw (← (c .before .before .point-at .ensures), ← (c .before .is-finite .ensures), c .if1 .taken))
+returns c =
+    let at-loop = c .before .before .before .before in
+    let start = at-loop .before .before in
+    let vs = now (start .args .vertices) in
+    let l = at-loop .loop in
+    least-at (unsound vs) (length vs / 3) (l .i) (omega arith) (λ j h. any-none (unsound vs) j (l .i) h (l .inv .0))
+    (rw (← (c .before .before .point-at .ensures), ← (c .before .is-finite .ensures), c .if1 .taken))
 
 add-i : tie.Need-add-i Inv-loop μ-loop
 add-i c = omega arith
@@ -40,10 +46,22 @@ loop-less c = omega arith
 
 loop-again : tie.Need-loop-again Inv-loop μ-loop
 unfolding unsound
-loop-again c = let vs = now (c .before .before .before .before .before .before .args .vertices) in let l = c .before .before .before .before .loop in (rw (any-next (unsound vs) (l .i), l .inv .0, ← (c .before .before .point-at .ensures), ← (c .before .is-finite .ensures), c .if1 .left), omega arith)
+loop-again c =
+    let at-loop = c .before .before .before .before in
+    let start = at-loop .before .before in
+    let vs = now (start .args .vertices) in
+    let l = at-loop .loop in (
+      rw (any-next (unsound vs) (l .i), l .inv .0, ← (c .before .before .point-at .ensures), ← (c .before .is-finite .ensures), c .if1 .left),
+      omega arith,
+    )
 
 returns-2 : tie.Need-returns-2 Inv-loop μ-loop
-returns-2 c = let vs = now (c .before .before .before .args .vertices) in let l = c .before .loop in let e : l .i ≡ length vs / 3 = omega (arith, l .inv .1) in least-none (unsound vs) (length vs / 3) (λ j h. any-none (unsound vs) j (length vs / 3) h (rw e at (l .inv .0)))
+returns-2 c =
+    let start = c .before .before .before in
+    let vs = now (start .args .vertices) in
+    let l = c .before .loop in
+    let e : l .i ≡ length vs / 3 = omega (arith, l .inv .1) in
+    least-none (unsound vs) (length vs / 3) (λ j h. any-none (unsound vs) j (length vs / 3) h (rw e at (l .inv .0)))
 
 pub search-unsound-spec : {M : Type 1} → statement M
 search-unsound-spec =

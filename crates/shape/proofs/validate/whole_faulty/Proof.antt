@@ -43,22 +43,75 @@ wide-requires-3 : tie.Need-wide-requires-3
 wide-requires-3 c κs = search needs
 
 returns : tie.Need-returns
-returns c = let a = c .before .before .before .before .before .before .before .before .before .args in past-first (now (a .vertices)) (now (a .indices)) (a .t) (a .n) (c .before .before .before .before .before .wide .result) (c .before .before .before .wide2 .result) (c .before .wide3 .result) (c .before .before .before .before .before .before .before .before .before .pre .0) (c .before .before .before .before .before .before .before .before .before .pre .1) (c .before .before .before .before .before .wide .ensures) (c .before .before .before .wide2 .ensures) (c .before .wide3 .ensures) (c .if1 .taken)
+returns c =
+    let at-wide2 = c .before .before .before in
+    let at-wide = at-wide2 .before .before in
+    let start = at-wide .before .before .before .before in
+    let a = start .args in
+    past-first (now (a .vertices)) (now (a .indices)) (a .t) (a .n) (at-wide .wide .result) (at-wide2 .wide2 .result) (c .before .wide3 .result)
+    (start .pre .0) (start .pre .1) (at-wide .wide .ensures) (at-wide2 .wide2 .ensures) (c .before .wide3 .ensures) (c .if1 .taken)
 
 returns-2 : tie.Need-returns-2
-returns-2 c = let a = c .before .before .before .before .before .before .before .before .before .before .args in past-second (now (a .vertices)) (now (a .indices)) (a .t) (a .n) (c .before .before .before .before .before .before .wide .result) (c .before .before .before .before .wide2 .result) (c .before .before .wide3 .result) (c .before .before .before .before .before .before .before .before .before .before .pre .0) (c .before .before .before .before .before .before .before .before .before .before .pre .1) (c .before .before .before .before .before .before .wide .ensures) (c .before .before .before .before .wide2 .ensures) (c .before .before .wide3 .ensures) (c .before .if1 .left) (c .if2 .taken)
+returns-2 c =
+    let at-wide2 = c .before .before .before .before in
+    let at-wide = at-wide2 .before .before in
+    let start = at-wide .before .before .before .before in
+    let a = start .args in
+    past-second (now (a .vertices)) (now (a .indices)) (a .t) (a .n) (at-wide .wide .result) (at-wide2 .wide2 .result)
+    (c .before .before .wide3 .result) (start .pre .0) (start .pre .1) (at-wide .wide .ensures) (at-wide2 .wide2 .ensures)
+    (c .before .before .wide3 .ensures) (c .before .if1 .left) (c .if2 .taken)
 
 returns-3 : tie.Need-returns-3
-returns-3 c = let a = c .before .before .before .before .before .before .before .before .before .before .before .args in past-third (now (a .vertices)) (now (a .indices)) (a .t) (a .n) (c .before .before .before .before .before .before .before .wide .result) (c .before .before .before .before .before .wide2 .result) (c .before .before .before .wide3 .result) (c .before .before .before .before .before .before .before .before .before .before .before .pre .0) (c .before .before .before .before .before .before .before .before .before .before .before .pre .1) (c .before .before .before .before .before .before .before .wide .ensures) (c .before .before .before .before .before .wide2 .ensures) (c .before .before .before .wide3 .ensures) (c .before .before .if1 .left) (c .before .if2 .left) (c .if3 .taken)
+returns-3 c =
+    let at-wide3 = c .before .before .before in
+    let at-wide2 = at-wide3 .before .before in
+    let at-wide = at-wide2 .before .before in
+    let start = at-wide .before .before .before .before in
+    let a = start .args in
+    past-third (now (a .vertices)) (now (a .indices)) (a .t) (a .n) (at-wide .wide .result) (at-wide2 .wide2 .result) (at-wide3 .wide3 .result)
+    (start .pre .0) (start .pre .1) (at-wide .wide .ensures) (at-wide2 .wide2 .ensures) (at-wide3 .wide3 .ensures)
+    (c .before .before .if1 .left) (c .before .if2 .left) (c .if3 .taken)
 
 returns-4 : tie.Need-returns-4
-returns-4 c = let a = c .before .before .before .before .before .before .before .before .before .before .before .before .args in flat-first (now (a .vertices)) (c .before .before .before .before .before .before .before .before .wide .result) (c .before .before .before .before .before .before .wide2 .result) (c .before .before .before .before .wide3 .result) (c .if4 .taken) ∙ inside (now (a .vertices)) (now (a .indices)) (a .t) (a .n) (c .before .before .before .before .before .before .before .before .wide .result) (c .before .before .before .before .before .before .wide2 .result) (c .before .before .before .before .wide3 .result) (c .before .before .before .before .before .before .before .before .before .before .before .before .pre .0) (c .before .before .before .before .before .before .before .before .before .before .before .before .pre .1) (c .before .before .before .before .before .before .before .before .wide .ensures) (c .before .before .before .before .before .before .wide2 .ensures) (c .before .before .before .before .wide3 .ensures) (c .before .before .before .if1 .left) (c .before .before .if2 .left) (c .before .if3 .left)
+returns-4 c =
+    let at-if1 = c .before .before .before in
+    let at-wide3 = at-if1 .before in
+    let at-wide2 = at-wide3 .before .before in
+    let at-wide = at-wide2 .before .before in
+    let start = at-wide .before .before .before .before in
+    let a = start .args in
+    flat-first (now (a .vertices)) (at-wide .wide .result) (at-wide2 .wide2 .result) (at-wide3 .wide3 .result) (c .if4 .taken)
+    ∙ inside (now (a .vertices)) (now (a .indices)) (a .t) (a .n) (at-wide .wide .result) (at-wide2 .wide2 .result) (at-wide3 .wide3 .result)
+    (start .pre .0) (start .pre .1) (at-wide .wide .ensures) (at-wide2 .wide2 .ensures) (at-wide3 .wide3 .ensures) (at-if1 .if1 .left)
+    (c .before .before .if2 .left) (c .before .if3 .left)
 
 returns-5 : tie.Need-returns-5
-returns-5 c = let a = c .before .before .before .before .before .before .before .before .before .before .before .before .before .args in flat-second (now (a .vertices)) (c .before .before .before .before .before .before .before .before .before .wide .result) (c .before .before .before .before .before .before .before .wide2 .result) (c .before .before .before .before .before .wide3 .result) (c .before .if4 .left) (c .if5 .taken) ∙ inside (now (a .vertices)) (now (a .indices)) (a .t) (a .n) (c .before .before .before .before .before .before .before .before .before .wide .result) (c .before .before .before .before .before .before .before .wide2 .result) (c .before .before .before .before .before .wide3 .result) (c .before .before .before .before .before .before .before .before .before .before .before .before .before .pre .0) (c .before .before .before .before .before .before .before .before .before .before .before .before .before .pre .1) (c .before .before .before .before .before .before .before .before .before .wide .ensures) (c .before .before .before .before .before .before .before .wide2 .ensures) (c .before .before .before .before .before .wide3 .ensures) (c .before .before .before .before .if1 .left) (c .before .before .before .if2 .left) (c .before .before .if3 .left)
+returns-5 c =
+    let at-if2 = c .before .before .before in
+    let at-wide3 = at-if2 .before .before in
+    let at-wide2 = at-wide3 .before .before in
+    let at-wide = at-wide2 .before .before in
+    let start = at-wide .before .before .before .before in
+    let a = start .args in
+    flat-second (now (a .vertices)) (at-wide .wide .result) (at-wide2 .wide2 .result) (at-wide3 .wide3 .result) (c .before .if4 .left)
+    (c .if5 .taken)
+    ∙ inside (now (a .vertices)) (now (a .indices)) (a .t) (a .n) (at-wide .wide .result) (at-wide2 .wide2 .result) (at-wide3 .wide3 .result)
+    (start .pre .0) (start .pre .1) (at-wide .wide .ensures) (at-wide2 .wide2 .ensures) (at-wide3 .wide3 .ensures) (at-if2 .before .if1 .left)
+    (at-if2 .if2 .left) (c .before .before .if3 .left)
 
 returns-6 : tie.Need-returns-6
-returns-6 c = let a = c .before .before .before .before .before .before .before .before .before .before .before .before .before .before .args in flat-third (now (a .vertices)) (c .before .before .before .before .before .before .before .before .before .before .wide .result) (c .before .before .before .before .before .before .before .before .wide2 .result) (c .before .before .before .before .before .before .wide3 .result) (c .before .before .if4 .left) (c .before .if5 .left) (c .if6 .taken) ∙ inside (now (a .vertices)) (now (a .indices)) (a .t) (a .n) (c .before .before .before .before .before .before .before .before .before .before .wide .result) (c .before .before .before .before .before .before .before .before .wide2 .result) (c .before .before .before .before .before .before .wide3 .result) (c .before .before .before .before .before .before .before .before .before .before .before .before .before .before .pre .0) (c .before .before .before .before .before .before .before .before .before .before .before .before .before .before .pre .1) (c .before .before .before .before .before .before .before .before .before .before .wide .ensures) (c .before .before .before .before .before .before .before .before .wide2 .ensures) (c .before .before .before .before .before .before .wide3 .ensures) (c .before .before .before .before .before .if1 .left) (c .before .before .before .before .if2 .left) (c .before .before .before .if3 .left)
+returns-6 c =
+    let at-if3 = c .before .before .before in
+    let at-wide3 = at-if3 .before .before .before in
+    let at-wide2 = at-wide3 .before .before in
+    let at-wide = at-wide2 .before .before in
+    let start = at-wide .before .before .before .before in
+    let a = start .args in
+    flat-third (now (a .vertices)) (at-wide .wide .result) (at-wide2 .wide2 .result) (at-wide3 .wide3 .result) (c .before .before .if4 .left)
+    (c .before .if5 .left) (c .if6 .taken)
+    ∙ inside (now (a .vertices)) (now (a .indices)) (a .t) (a .n) (at-wide .wide .result) (at-wide2 .wide2 .result) (at-wide3 .wide3 .result)
+    (start .pre .0) (start .pre .1) (at-wide .wide .ensures) (at-wide2 .wide2 .ensures) (at-wide3 .wide3 .ensures)
+    (at-if3 .before .before .if1 .left) (at-if3 .before .if2 .left) (at-if3 .if3 .left)
 
 point-at-requires : tie.Need-point-at-requires
 point-at-requires c κs = search needs
@@ -73,7 +126,21 @@ no-area-requires : tie.Need-no-area-requires
 no-area-requires c κs = search needs
 
 returns-7 : tie.Need-returns-7
-returns-7 c = let a = c .before .before .before .before .before .before .before .before .before .before .before .before .before .before .before .before .before .before .args in rw (c .no-area .ensures, c .before .point-at3 .ensures, c .before .before .point-at2 .ensures, c .before .before .before .point-at .ensures) (by-area (now (a .vertices)) (c .before .before .before .before .before .before .before .before .before .before .before .before .before .before .wide .result) (c .before .before .before .before .before .before .before .before .before .before .before .before .wide2 .result) (c .before .before .before .before .before .before .before .before .before .before .wide3 .result) (c .before .before .before .before .before .before .if4 .left) (c .before .before .before .before .before .if5 .left) (c .before .before .before .before .if6 .left) ∙ inside (now (a .vertices)) (now (a .indices)) (a .t) (a .n) (c .before .before .before .before .before .before .before .before .before .before .before .before .before .before .wide .result) (c .before .before .before .before .before .before .before .before .before .before .before .before .wide2 .result) (c .before .before .before .before .before .before .before .before .before .before .wide3 .result) (c .before .before .before .before .before .before .before .before .before .before .before .before .before .before .before .before .before .before .pre .0) (c .before .before .before .before .before .before .before .before .before .before .before .before .before .before .before .before .before .before .pre .1) (c .before .before .before .before .before .before .before .before .before .before .before .before .before .before .wide .ensures) (c .before .before .before .before .before .before .before .before .before .before .before .before .wide2 .ensures) (c .before .before .before .before .before .before .before .before .before .before .wide3 .ensures) (c .before .before .before .before .before .before .before .before .before .if1 .left) (c .before .before .before .before .before .before .before .before .if2 .left) (c .before .before .before .before .before .before .before .if3 .left))
+returns-7 c =
+    let at-point-at = c .before .before .before in
+    let at-if4 = at-point-at .before .before .before in
+    let at-if1 = at-if4 .before .before .before in
+    let at-wide3 = at-if1 .before in
+    let at-wide2 = at-wide3 .before .before in
+    let at-wide = at-wide2 .before .before in
+    let start = at-wide .before .before .before .before in
+    let a = start .args in
+    rw (c .no-area .ensures, c .before .point-at3 .ensures, c .before .before .point-at2 .ensures, at-point-at .point-at .ensures)
+    (by-area (now (a .vertices)) (at-wide .wide .result) (at-wide2 .wide2 .result) (at-wide3 .wide3 .result) (at-if4 .if4 .left)
+    (at-point-at .before .before .if5 .left) (at-point-at .before .if6 .left)
+    ∙ inside (now (a .vertices)) (now (a .indices)) (a .t) (a .n) (at-wide .wide .result) (at-wide2 .wide2 .result) (at-wide3 .wide3 .result)
+    (start .pre .0) (start .pre .1) (at-wide .wide .ensures) (at-wide2 .wide2 .ensures) (at-wide3 .wide3 .ensures) (at-if1 .if1 .left)
+    (at-if4 .before .before .if2 .left) (at-if4 .before .if3 .left))
 
 pub whole-faulty-spec : {M : Type 1} → statement M
 whole-faulty-spec =

@@ -1,5 +1,5 @@
 -- `shape::weld::is_kept` meets its contract: a step within 0.1 goes, a clearly long one stays. Assumes nothing.
-use mathlib.Core.Path.{_≡_, sym, _∙_}
+use mathlib.Core.Path.{sym, _∙_}
 use lib.Ieee.{binary32, ofBits}
 use Rattle.rounding.specs.Root.{sqrtOf}
 use Rattle.vector.specs.Single.{_⊗_}
@@ -33,7 +33,10 @@ returns-2 c = rw (c .max32 .ensures, c .before .sqrt322 .ensures, c .before .bef
 
 returns-3 : tie.Need-returns-3
 unfolding keepsStep
-returns-3 c = let a = c .before .before .before .before .args in sym (near (quarter ⊗ sqrtOf binary32 (a .last)) (sqrtOf binary32 (a .square)) (sym (c .before .root-above-tenth .ensures) ∙ c .if2 .left))
+returns-3 c =
+    let start = c .before .before .before .before in
+    let a = start .args in
+    sym (near (quarter ⊗ sqrtOf binary32 (a .last)) (sqrtOf binary32 (a .square)) (sym (c .before .root-above-tenth .ensures) ∙ c .if2 .left))
 
 pub is-kept-spec : {M : Type 1} → statement M
 is-kept-spec =

@@ -15,7 +15,7 @@ use Rattle.rounding.specs.Root.{sqrtOf}
 use Rattle.rounding.specs.Thresholds.{micro}
 use Rattle.shape.specs.declared.weld.Welding.{Welding}
 use Rattle.shape.specs.Memory.{Put}
-use Rattle.shape.specs.Strip.{Weld, welded, weldNext, keeps, stepOf, keptOf, lastOf}
+use Rattle.shape.specs.Strip.{Weld, welded, weldNext, keeps, stepOf, keptOf, endKept}
 use Rattle.shape.specs.Laws.Memory.{sets-append, put-length}
 use Rattle.shape.proofs.Strips.{cond-few, cond-le}
 use Rattle.shape.proofs.weld.weld.Statement.{statement}
@@ -49,7 +49,7 @@ welded-next ps i = rw add-one
 
 -- the end
 module _ (ps : List Float) (k₀ k k′ : List ℕ) (h : Welding) (i : ℕ) (hold : Holds k₀ k h (welded ps i)) where
-  finish : (r : ℕ) → Put k k′ (h .count) (lastOf (h .count) (lt (stepOf ps 0 i) micro) i) r → Put k₀ k′ 0 (keptOf ps (suc i)) r
+  finish : (r : ℕ) → Put k k′ (h .count) (endKept (h .count) (lt (stepOf ps 0 i) micro) i) r → Put k₀ k′ 0 (keptOf ps (suc i)) r
   unfolding keptOf
   finish r p =
       record {
@@ -94,15 +94,17 @@ loop-less : tie.Need-loop-less Inv-loop μ-loop
 loop-less c = omega arith
 
 loop-again : tie.Need-loop-again Inv-loop μ-loop
-loop-again c = let ps = now (c .before .before .before .before .before .before .before .before .before .args .points) in
-    let at = c .before .before .before .before .before .loop in
+loop-again c =
+    let at-loop = c .before .before .before .before .before in
+    let start = at-loop .before .before .before .before in
+    let ps = now (start .args .points) in
+    let at = at-loop .loop in
     let k = keeps ps (at .h .last) (sqrtOf binary32 (at .h .square)) (at .i + 1) in
     let did = c .before .before .weld-step in
     record {
-      holds =
-          rw (welded-next ps (at .i))
-          (next ps (now (c .before .before .before .before .before .before .before .before .before .args .kept)) (at .kept) (did .last .1 .0) (at .h) (did .result) (welded ps (at .i)) (at .i + 1)
-          (at .inv .holds) (did .ensures .0 .0) (did .ensures .0 .1) (did .ensures .1));
+      holds = rw (welded-next ps (at .i))
+          (next ps (now (start .args .kept)) (at .kept) (did .last .1 .0) (at .h) (did .result) (welded ps (at .i)) (at .i + 1) (at .inv .holds)
+          (did .ensures .0 .0) (did .ensures .0 .1) (did .ensures .1));
       few = omega (arith, did .ensures .1 .ends, cond-few k (at .h .last), at .inv .few);
       old = rw (did .ensures .0 .0) (cond-le k (at .i + 1) (at .h .last) (at .i + 1) (omega arith) (omega (arith, at .inv .old)));
       more = omega arith;
@@ -116,15 +118,24 @@ weld-end-requires : tie.Need-weld-end-requires Inv-loop μ-loop
 weld-end-requires c κs = omega arith
 
 same-length : tie.Need-same-length Inv-loop μ-loop
-same-length c = put-length (c .before .before .weld-end .ensures .0) ∙ c .before .before .before .before .before .loop .inv .long ∙ sym (c .before .before .before .before .before .before .before .before .before .pre .1)
+same-length c =
+    let at-loop = c .before .before .before .before .before in
+    let start = at-loop .before .before .before .before in
+    put-length (c .before .before .weld-end .ensures .0) ∙ at-loop .loop .inv .long ∙ sym (start .pre .1)
 
 returns-2 : tie.Need-returns-2 Inv-loop μ-loop
-returns-2 c = let ps = now (c .before .before .before .before .before .before .before .before .before .args .points) in
-    let at = c .before .before .before .before .before .loop in
+returns-2 c =
+    let at-loop = c .before .before .before .before .before in
+    let start = at-loop .before .before .before .before in
+    let ps = now (start .args .points) in
+    let at = at-loop .loop in
     let did = c .before .before .weld-end in
     let here : length ps / 3 - 1 ≡ at .i = omega (arith, at .inv .more) in
-    let all : length ps / 3 ≡ suc (at .i) = omega (arith, at .inv .more) in
-    (rw all (finish ps (now (c .before .before .before .before .before .before .before .before .before .args .kept)) (at .kept) (did .last .1 .0) (at .h) (at .i) (at .inv .holds) (did .result) (rw here at (did .ensures .0))), did .ensures .1)
+    let all : length ps / 3 ≡ suc (at .i) = omega (arith, at .inv .more) in (
+      rw all (finish ps (now (start .args .kept)) (at .kept) (did .last .1 .0) (at .h) (at .i) (at .inv .holds) (did .result)
+          (rw here at (did .ensures .0))),
+      did .ensures .1,
+    )
 
 pub weld-spec : {M : Type 1} → statement M
 weld-spec =

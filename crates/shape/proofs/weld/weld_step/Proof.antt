@@ -43,11 +43,25 @@ same-length c = search needs
 
 returns : tie.Need-returns
 unfolding keeps stepOf
-returns c = let e = is-step (c .before .before .before .before .before .before .before .length-squared .ensures) (c .before .before .before .before .before .before .before .before .sub .ensures) (c .before .before .before .before .before .before .before .before .before .before .point-at .ensures) (c .before .before .before .before .before .before .before .before .before .point-at2 .ensures) in let k = rw e at (sym (c .before .before .before .before .before .before .is-kept .ensures) ∙ c .before .before .before .before .before .if1 .taken) in rw k ((refl, e), record { memory = c .before .before .before .put-word .ensures; ends = refl })
+returns c =
+    let at-put-word = c .before .before .before in
+    let at-is-kept = at-put-word .before .before .before in
+    let at-point-at2 = at-is-kept .before .before .before in
+    let e = is-step (at-is-kept .before .length-squared .ensures) (at-is-kept .before .before .sub .ensures)
+    (at-point-at2 .before .point-at .ensures) (at-point-at2 .point-at2 .ensures) in
+    let k = rw e at (sym (at-is-kept .is-kept .ensures) ∙ at-put-word .before .before .if1 .taken) in
+    rw k ((refl, e), record { memory = at-put-word .put-word .ensures; ends = refl })
 
 returns-2 : tie.Need-returns-2
 unfolding keeps stepOf
-returns-2 c = let a = c .before .before .before .before .before .before .before .before .args in let e = is-step (c .before .before .length-squared .ensures) (c .before .before .before .sub .ensures) (c .before .before .before .before .before .point-at .ensures) (c .before .before .before .before .point-at2 .ensures) in let k = rw e at (sym (c .before .is-kept .ensures) ∙ c .if1 .left) in rw k ((refl, refl), put-none (now (a .kept)) (a .h .count))
+returns-2 c =
+    let at-sub = c .before .before .before in
+    let start = at-sub .before .before .before .before .before in
+    let a = start .args in
+    let e = is-step (c .before .before .length-squared .ensures) (at-sub .sub .ensures) (at-sub .before .before .point-at .ensures)
+    (at-sub .before .point-at2 .ensures) in
+    let k = rw e at (sym (c .before .is-kept .ensures) ∙ c .if1 .left) in
+    rw k ((refl, refl), put-none (now (a .kept)) (a .h .count))
 
 pub weld-step-spec : {M : Type 1} → statement M
 weld-step-spec =

@@ -27,10 +27,24 @@ wide-requires-2 : tie.Need-wide-requires-2
 wide-requires-2 c κs = search needs
 
 mul-low : tie.Need-mul-low
-mul-low c = omega (arith, c .before .shared-slice-known3 .given (c .before .before .before .before .before .before .args .i * 4 + 1), c .before .before .before .shared-slice-known2 .given (c .before .before .before .before .before .before .args .i * 4))
+mul-low c =
+    let at-shared-slice-known2 = c .before .before .before in
+    let start = at-shared-slice-known2 .before .before .before in
+    omega (
+      arith,
+      c .before .shared-slice-known3 .given (start .args .i * 4 + 1),
+      at-shared-slice-known2 .shared-slice-known2 .given (start .args .i * 4),
+    )
 
 add-low : tie.Need-add-low
-add-low c = omega (arith, c .before .shared-slice-known3 .given (c .before .before .before .before .before .before .args .i * 4 + 1), c .before .before .before .shared-slice-known2 .given (c .before .before .before .before .before .before .args .i * 4))
+add-low c =
+    let at-shared-slice-known2 = c .before .before .before in
+    let start = at-shared-slice-known2 .before .before .before in
+    omega (
+      arith,
+      c .before .shared-slice-known3 .given (start .args .i * 4 + 1),
+      at-shared-slice-known2 .shared-slice-known2 .given (start .args .i * 4),
+    )
 
 add-wide-2 : tie.Need-add-wide-2
 add-wide-2 c = search needs
@@ -51,22 +65,64 @@ wide-requires-4 : tie.Need-wide-requires-4
 wide-requires-4 c κs = search needs
 
 mul-high : tie.Need-mul-high
-mul-high c = omega (arith, c .before .shared-slice-known5 .given (c .before .before .before .before .before .before .before .before .before .before .args .i * 4 + 3), c .before .before .before .shared-slice-known4 .given (c .before .before .before .before .before .before .before .before .before .before .args .i * 4 + 2), c .before .before .before .before .before .shared-slice-known3 .given (c .before .before .before .before .before .before .before .before .before .before .args .i * 4 + 1), c .before .before .before .before .before .before .before .shared-slice-known2 .given (c .before .before .before .before .before .before .before .before .before .before .args .i * 4))
+mul-high c =
+    let at-shared-slice-known4 = c .before .before .before in
+    let at-shared-slice-known2 = at-shared-slice-known4 .before .before .before .before in
+    let start = at-shared-slice-known2 .before .before .before in
+    omega (
+      arith,
+      c .before .shared-slice-known5 .given (start .args .i * 4 + 3),
+      at-shared-slice-known4 .shared-slice-known4 .given (start .args .i * 4 + 2),
+      at-shared-slice-known4 .before .before .shared-slice-known3 .given (start .args .i * 4 + 1),
+      at-shared-slice-known2 .shared-slice-known2 .given (start .args .i * 4),
+    )
 
 add-high : tie.Need-add-high
-add-high c = omega (arith, c .before .shared-slice-known5 .given (c .before .before .before .before .before .before .before .before .before .before .args .i * 4 + 3), c .before .before .before .shared-slice-known4 .given (c .before .before .before .before .before .before .before .before .before .before .args .i * 4 + 2), c .before .before .before .before .before .shared-slice-known3 .given (c .before .before .before .before .before .before .before .before .before .before .args .i * 4 + 1), c .before .before .before .before .before .before .before .shared-slice-known2 .given (c .before .before .before .before .before .before .before .before .before .before .args .i * 4))
+add-high c =
+    let at-shared-slice-known4 = c .before .before .before in
+    let at-shared-slice-known2 = at-shared-slice-known4 .before .before .before .before in
+    let start = at-shared-slice-known2 .before .before .before in
+    omega (
+      arith,
+      c .before .shared-slice-known5 .given (start .args .i * 4 + 3),
+      at-shared-slice-known4 .shared-slice-known4 .given (start .args .i * 4 + 2),
+      at-shared-slice-known4 .before .before .shared-slice-known3 .given (start .args .i * 4 + 1),
+      at-shared-slice-known2 .shared-slice-known2 .given (start .args .i * 4),
+    )
 
 mul-result : tie.Need-mul-result
-mul-result c = omega (arith, c .before .shared-slice-known5 .given (c .before .before .before .before .before .before .before .before .before .before .args .i * 4 + 3), c .before .before .before .shared-slice-known4 .given (c .before .before .before .before .before .before .before .before .before .before .args .i * 4 + 2), c .before .before .before .before .before .shared-slice-known3 .given (c .before .before .before .before .before .before .before .before .before .before .args .i * 4 + 1), c .before .before .before .before .before .before .before .shared-slice-known2 .given (c .before .before .before .before .before .before .before .before .before .before .args .i * 4))
+mul-result c =
+    let at-shared-slice-known4 = c .before .before .before in
+    let at-shared-slice-known2 = at-shared-slice-known4 .before .before .before .before in
+    let start = at-shared-slice-known2 .before .before .before in
+    omega (
+      arith,
+      c .before .shared-slice-known5 .given (start .args .i * 4 + 3),
+      at-shared-slice-known4 .shared-slice-known4 .given (start .args .i * 4 + 2),
+      at-shared-slice-known4 .before .before .shared-slice-known3 .given (start .args .i * 4 + 1),
+      at-shared-slice-known2 .shared-slice-known2 .given (start .args .i * 4),
+    )
 
 add-result : tie.Need-add-result
-add-result c = omega (arith, c .before .shared-slice-known5 .given (c .before .before .before .before .before .before .before .before .before .before .args .i * 4 + 3), c .before .before .before .shared-slice-known4 .given (c .before .before .before .before .before .before .before .before .before .before .args .i * 4 + 2), c .before .before .before .before .before .shared-slice-known3 .given (c .before .before .before .before .before .before .before .before .before .before .args .i * 4 + 1), c .before .before .before .before .before .before .before .shared-slice-known2 .given (c .before .before .before .before .before .before .before .before .before .before .args .i * 4))
+add-result c =
+    let at-shared-slice-known4 = c .before .before .before in
+    let at-shared-slice-known2 = at-shared-slice-known4 .before .before .before .before in
+    let start = at-shared-slice-known2 .before .before .before in
+    omega (
+      arith,
+      c .before .shared-slice-known5 .given (start .args .i * 4 + 3),
+      at-shared-slice-known4 .shared-slice-known4 .given (start .args .i * 4 + 2),
+      at-shared-slice-known4 .before .before .shared-slice-known3 .given (start .args .i * 4 + 1),
+      at-shared-slice-known2 .shared-slice-known2 .given (start .args .i * 4),
+    )
 
 returns : tie.Need-returns
 unfolding fourBytes
 returns c =
-    rw (c .before .before .before .before .before .before .wide .ensures, c .before .before .before .before .wide2 .ensures, c .before .before .wide3 .ensures, c .wide4 .ensures)
-    (sym (within _ _ (c .before .before .before .before .before .before .before .before .if1 .taken)))
+    let at-wide2 = c .before .before .before .before in
+    let at-if1 = at-wide2 .before .before .before .before in
+    rw (at-wide2 .before .before .wide .ensures, at-wide2 .wide2 .ensures, c .before .before .wide3 .ensures, c .wide4 .ensures)
+    (sym (within _ _ (at-if1 .if1 .taken)))
 
 returns-2 : tie.Need-returns-2
 returns-2 c = sym (past _ _ (c .if1 .left))

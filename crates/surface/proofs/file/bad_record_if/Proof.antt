@@ -3,8 +3,6 @@ use borrow.Author.Tests.{lt-ltb, le-ltb}
 use Rattle.shape.specs.Refusal.{found, numberOf, placeOf, refuse}
 use Rattle.surface.proofs.file.bad_record_if.Statement.{statement}
 use Rattle.surface.proofs.file.bad_record_if.Tie as tie
-use Rattle.surface.proofs.file.bad_record_if.Reads as reads
-use Rattle.surface.proofs.file.bad_record_if.Lts as lts
 
 returns : tie.Need-returns
 unfolding refuse found numberOf placeOf

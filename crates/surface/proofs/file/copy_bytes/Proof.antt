@@ -12,11 +12,6 @@ use Rattle.surface.specs.Laws.Records.{file-eight}
 use native.Mathlib.Omega.{arith}
 use Rattle.surface.proofs.file.copy_bytes.Statement.{statement}
 use Rattle.surface.proofs.file.copy_bytes.Tie as tie
-use Rattle.surface.proofs.file.copy_bytes.Reads as reads
-use Rattle.surface.proofs.file.copy_bytes.Lts as lts
-use Rattle.surface.proofs.file.file_of.Reads as file-of-reads
-use Rattle.surface.proofs.file.held_record.Reads as held-record-reads
-use Rattle.surface.proofs.file.put_file.Reads as put-file-reads
 
 abbrev Inv-loop : tie.InvT-loop
 Inv-loop held bytes₀ n at₀ k₀ bytes at k = Put bytes₀ bytes 0 (gather (λ k. encode (fileAt held k)) k) at × (at ≡ 32 * k) × (k ≤ n) × (n ≡ length held / 8)
@@ -36,9 +31,11 @@ file-of-requires c κs = omega arith
 
 put-file-requires : tie.Need-put-file-requires Inv-loop μ-loop
 put-file-requires c κs =
-    let l = c .before .before .before .before .loop in
+    let at-loop = c .before .before .before .before in
+    let start = at-loop .before .before .before in
+    let l = at-loop .loop in
     let z = file-eight _ (l .k) (omega (arith, l .inv)) (c .before .held-record .ensures) (c .file-of .ensures) in
-    (omega (arith, put-length (l .inv .0), l .inv, c .before .before .before .before .before .before .before .pre), z .1)
+    (omega (arith, put-length (l .inv .0), l .inv, start .pre), z .1)
 
 add-k : tie.Need-add-k Inv-loop μ-loop
 add-k c = omega arith
@@ -48,11 +45,18 @@ loop-less c = omega arith
 
 loop-again : tie.Need-loop-again Inv-loop μ-loop
 loop-again c =
-    let l = c .before .before .before .before .before .before .before .loop in
-    let xs = now (c .before .before .before .before .before .before .before .before .before .before .args .held) in
-    let z = file-eight xs (l .k) (omega (arith, l .inv)) (c .before .before .before .before .held-record .ensures) (c .before .before .before .file-of .ensures) in
-    let p = c .before .before .put-file .ensures in
-    (put-turn (λ k. encode (fileAt xs k)) (l .k) (l .inv .0) (rw (z .0) at p), omega (arith, p .ends, encode-length (c .before .before .before .file-of .result .words), z .1, l .inv), omega arith, l .inv .3)
+    let at-file-of = c .before .before .before in
+    let at-loop = at-file-of .before .before .before .before in
+    let start = at-loop .before .before .before in
+    let l = at-loop .loop in
+    let xs = now (start .args .held) in
+    let z = file-eight xs (l .k) (omega (arith, l .inv)) (at-file-of .before .held-record .ensures) (at-file-of .file-of .ensures) in
+    let p = c .before .before .put-file .ensures in (
+      put-turn (λ k. encode (fileAt xs k)) (l .k) (l .inv .0) (rw (z .0) at p),
+      omega (arith, p .ends, encode-length (at-file-of .file-of .result .words), z .1, l .inv),
+      omega arith,
+      l .inv .3,
+    )
 
 same-length : tie.Need-same-length Inv-loop μ-loop
 same-length c = put-length (c .before .loop .inv .0)

@@ -11,11 +11,6 @@ use Rattle.surface.specs.Laws.Records.{held-eight}
 use native.Mathlib.Omega.{arith}
 use Rattle.surface.proofs.file.copy_words.Statement.{statement}
 use Rattle.surface.proofs.file.copy_words.Tie as tie
-use Rattle.surface.proofs.file.copy_words.Reads as reads
-use Rattle.surface.proofs.file.copy_words.Lts as lts
-use Rattle.surface.proofs.file.file_record.Reads as file-record-reads
-use Rattle.surface.proofs.file.held_of.Reads as held-of-reads
-use Rattle.surface.proofs.file.put_held.Reads as put-held-reads
 
 abbrev Inv-loop : tie.InvT-loop
 Inv-loop bytes held₀ n at₀ k₀ held at k = Put held₀ held 0 (gather (heldAt bytes) k) at × (at ≡ 8 * k) × (k ≤ n) × (n ≡ length bytes / 32)
@@ -35,9 +30,11 @@ held-of-requires c κs = omega arith
 
 put-held-requires : tie.Need-put-held-requires Inv-loop μ-loop
 put-held-requires c κs =
-    let l = c .before .before .before .before .loop in
+    let at-loop = c .before .before .before .before in
+    let start = at-loop .before .before .before in
+    let l = at-loop .loop in
     let z = held-eight _ (l .k) (omega (arith, l .inv)) (c .before .file-record .ensures) (c .held-of .ensures) in
-    (omega (arith, put-length (l .inv .0), l .inv, c .before .before .before .before .before .before .before .pre), z .1)
+    (omega (arith, put-length (l .inv .0), l .inv, start .pre), z .1)
 
 add-k : tie.Need-add-k Inv-loop μ-loop
 add-k c = omega arith
@@ -47,9 +44,12 @@ loop-less c = omega arith
 
 loop-again : tie.Need-loop-again Inv-loop μ-loop
 loop-again c =
-    let l = c .before .before .before .before .before .before .before .loop in
-    let xs = now (c .before .before .before .before .before .before .before .before .before .before .args .bytes) in
-    let z = held-eight xs (l .k) (omega (arith, l .inv)) (c .before .before .before .before .file-record .ensures) (c .before .before .before .held-of .ensures) in
+    let at-held-of = c .before .before .before in
+    let at-loop = at-held-of .before .before .before .before in
+    let start = at-loop .before .before .before in
+    let l = at-loop .loop in
+    let xs = now (start .args .bytes) in
+    let z = held-eight xs (l .k) (omega (arith, l .inv)) (at-held-of .before .file-record .ensures) (at-held-of .held-of .ensures) in
     let p = c .before .before .put-held .ensures in
     (put-turn (heldAt xs) (l .k) (l .inv .0) (rw (z .0) at p), omega (arith, p .ends, z .1, l .inv), omega arith, l .inv .3)
 

@@ -3,9 +3,6 @@ use Rattle.surface.specs.FileSteps.{countIn}
 use borrow.Author.Needs.{needs}
 use Rattle.surface.proofs.file.count_records.Statement.{statement}
 use Rattle.surface.proofs.file.count_records.Tie as tie
-use Rattle.surface.proofs.file.count_records.Reads as reads
-use Rattle.surface.proofs.file.count_records.Lts as lts
-use Rattle.surface.proofs.file.count_parts.Reads as count-parts-reads
 
 enum-told : tie.Need-enum-told
 enum-told c = search needs

@@ -1,11 +1,8 @@
 -- `surface::file::count_whole` meets its contract, by the form. Assumes nothing.
-use mathlib.Core.Path.{refl}
 use Rattle.surface.specs.FileSteps.{wholeIn}
 use borrow.Author.Needs.{needs}
 use Rattle.surface.proofs.file.count_whole.Statement.{statement}
 use Rattle.surface.proofs.file.count_whole.Tie as tie
-use Rattle.surface.proofs.file.count_whole.Reads as reads
-use Rattle.surface.proofs.file.count_whole.Lts as lts
 
 enum-told : tie.Need-enum-told
 enum-told c = search needs

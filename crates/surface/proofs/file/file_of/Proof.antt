@@ -3,8 +3,6 @@ use mathlib.Core.Path.{sym}
 use Rattle.surface.specs.Laws.File.{file-same}
 use Rattle.surface.proofs.file.file_of.Statement.{statement}
 use Rattle.surface.proofs.file.file_of.Tie as tie
-use Rattle.surface.proofs.file.file_of.Reads as reads
-use Rattle.surface.proofs.file.file_of.Lts as lts
 
 returns : tie.Need-returns
 returns c = sym (file-same _ _)

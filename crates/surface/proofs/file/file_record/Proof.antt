@@ -4,9 +4,6 @@ use Rattle.surface.specs.Laws.File.{file-words}
 use borrow.Author.Needs.{needs}
 use Rattle.surface.proofs.file.file_record.Statement.{statement}
 use Rattle.surface.proofs.file.file_record.Tie as tie
-use Rattle.surface.proofs.file.file_record.Reads as reads
-use Rattle.surface.proofs.file.file_record.Lts as lts
-use Rattle.surface.proofs.file.word_at.Reads as word-at-reads
 
 mul-i : tie.Need-mul-i
 mul-i c = search needs

@@ -7,11 +7,6 @@ use Rattle.surface.specs.FileSteps.{wholeIn, recordIn}
 use Rattle.surface.specs.Laws.Records.{Passed, passed-none, passed-next, passed-bad, passed-all, whole-eight}
 use Rattle.surface.proofs.file.first_bad.Statement.{statement}
 use Rattle.surface.proofs.file.first_bad.Tie as tie
-use Rattle.surface.proofs.file.first_bad.Reads as reads
-use Rattle.surface.proofs.file.first_bad.Lts as lts
-use Rattle.surface.proofs.file.count_whole.Reads as count-whole-reads
-use Rattle.surface.proofs.file.record_at.Reads as record-at-reads
-use Rattle.surface.proofs.file.sound_kind.Reads as sound-kind-reads
 
 abbrev Inv-loop : tie.InvT-loop
 Inv-loop form bytes held n last₀ k₀ last k = Passed form (recordIn form bytes held) last k × (k ≤ n) × (n ≡ wholeIn form bytes held)
@@ -38,11 +33,15 @@ sound-kind-requires c κs =
 
 returns : tie.Need-returns Inv-loop μ-loop
 returns c =
-    let a = c .before .before .before .before .before .before .before .before .args in
+    let at-loop = c .before .before .before .before in
+    let start = at-loop .before .before .before .before in
+    let a = start .args in
     let bs = now (a .bytes) in
     let ws = now (a .held) in
-    let l = c .before .before .before .before .loop in
-    passed-bad (a .form) (recordIn (a .form) bs ws) (l .last) (l .k) _ (l .inv .0) (rw (c .before .before .record-at .ensures) at (c .before .sound-kind .ensures)) (wholeIn (a .form) bs ws) (omega (arith, l .inv)) (c .if1 .taken)
+    let l = at-loop .loop in
+    passed-bad (a .form) (recordIn (a .form) bs ws) (l .last) (l .k) _ (l .inv .0)
+    (rw (c .before .before .record-at .ensures) at (c .before .sound-kind .ensures)) (wholeIn (a .form) bs ws) (omega (arith, l .inv))
+    (c .if1 .taken)
 
 add-k : tie.Need-add-k Inv-loop μ-loop
 add-k c = omega arith
@@ -52,11 +51,17 @@ loop-less c = omega arith
 
 loop-again : tie.Need-loop-again Inv-loop μ-loop
 loop-again c =
-    let a = c .before .before .before .before .before .before .before .before .args in
+    let at-loop = c .before .before .before .before in
+    let start = at-loop .before .before .before .before in
+    let a = start .args in
     let bs = now (a .bytes) in
     let ws = now (a .held) in
-    let l = c .before .before .before .before .loop in
-    (passed-next (a .form) (recordIn (a .form) bs ws) (l .last) (l .k) _ (l .inv .0) (rw (c .before .before .record-at .ensures) at (c .before .sound-kind .ensures)) (c .if1 .left), omega arith, l .inv .2)
+    let l = at-loop .loop in (
+      passed-next (a .form) (recordIn (a .form) bs ws) (l .last) (l .k) _ (l .inv .0)
+          (rw (c .before .before .record-at .ensures) at (c .before .sound-kind .ensures)) (c .if1 .left),
+      omega arith,
+      l .inv .2,
+    )
 
 returns-2 : tie.Need-returns-2 Inv-loop μ-loop
 returns-2 c =

@@ -3,8 +3,6 @@ use mathlib.Core.Path.{sym}
 use Rattle.surface.specs.Laws.File.{held-same}
 use Rattle.surface.proofs.file.held_of.Statement.{statement}
 use Rattle.surface.proofs.file.held_of.Tie as tie
-use Rattle.surface.proofs.file.held_of.Reads as reads
-use Rattle.surface.proofs.file.held_of.Lts as lts
 
 returns : tie.Need-returns
 returns c = sym (held-same _ _)

@@ -4,8 +4,6 @@ use Rattle.surface.specs.Laws.File.{held-words}
 use borrow.Author.Needs.{needs}
 use Rattle.surface.proofs.file.held_record.Statement.{statement}
 use Rattle.surface.proofs.file.held_record.Tie as tie
-use Rattle.surface.proofs.file.held_record.Reads as reads
-use Rattle.surface.proofs.file.held_record.Lts as lts
 
 mul-i : tie.Need-mul-i
 mul-i c = search needs

@@ -1,5 +1,5 @@
 -- `surface::file::put_file` meets its contract: the bytes of the first j words are put. Assumes nothing.
-use mathlib.Core.Path.{_≡_, refl}
+use mathlib.Core.Path.{_≡_}
 use Prim.Native.Nat.{_+_, _-_, _*_, _≤_}
 use lib.ListN.{length, getD}
 use Rattle.shape.specs.Gather.{gather}
@@ -9,9 +9,6 @@ use Rattle.surface.specs.File.{fourBytes, encode}
 use native.Mathlib.Omega.{arith}
 use Rattle.surface.proofs.file.put_file.Statement.{statement}
 use Rattle.surface.proofs.file.put_file.Tie as tie
-use Rattle.surface.proofs.file.put_file.Reads as reads
-use Rattle.surface.proofs.file.put_file.Lts as lts
-use Rattle.surface.proofs.file.put_word.Reads as put-word-reads
 
 abbrev Inv-loop : tie.InvT-loop
 Inv-loop bytes₀ at words next₀ j₀ bytes next j = Put bytes₀ bytes at (gather (λ k. fourBytes (getD words k 0)) j) next × (next ≡ at + 4 * j) × (j ≤ 8)
@@ -41,9 +38,11 @@ loop-less c = omega arith
 loop-again : tie.Need-loop-again Inv-loop μ-loop
 unfolding fourBytes
 loop-again c =
-    let l = c .before .before .before .before .before .loop in
+    let at-loop = c .before .before .before .before .before in
+    let start = at-loop .before .before .before in
+    let l = at-loop .loop in
     let p = c .before .before .put-word .ensures in
-    let ws = c .before .before .before .before .before .before .before .before .args .r .words in
+    let ws = start .args .r .words in
     (put-turn (λ k. fourBytes (getD ws k 0)) (l .j) (l .inv .0) p, omega (arith, p .ends, l .inv), omega arith)
 
 same-length : tie.Need-same-length Inv-loop μ-loop

@@ -2,7 +2,7 @@
 use mathlib.Core.Path.{_≡_, refl}
 use mathlib.Core.List.{[], _∷_}
 use Prim.Native.Nat.{_+_, _-_, _≤_}
-use lib.ListN.{length, getD}
+use lib.ListN.{getD}
 use Rattle.shape.specs.Gather.{gather}
 use Rattle.shape.specs.Memory.{Put}
 use Rattle.shape.specs.Laws.Memory.{put-none, put-turn, put-length}
@@ -11,8 +11,6 @@ use native.Mathlib.Nat.{add-zero}
 use native.Mathlib.Omega.{arith}
 use Rattle.surface.proofs.file.put_held.Statement.{statement}
 use Rattle.surface.proofs.file.put_held.Tie as tie
-use Rattle.surface.proofs.file.put_held.Reads as reads
-use Rattle.surface.proofs.file.put_held.Lts as lts
 
 abbrev Inv-loop : tie.InvT-loop
 Inv-loop held₀ at words j₀ held j = Put held₀ held at (gather (λ k. getD words k 0 ∷ []) j) (at + j) × (j ≤ 8)

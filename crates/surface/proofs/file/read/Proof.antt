@@ -18,11 +18,13 @@ enum-known-check c = search needs
 returns : tie.Need-returns
 unfolding readOf
 returns c =
-    let a = c .before .before .before .before .before .before .args in
+    let at-file-fault = c .before .before .before in
+    let start = at-file-fault .before .before .before in
+    let a = start .args in
     let f = fileFault (now (a .bytes)) in
     let r = wordsOf (now (a .bytes)) in
     let o = now (a .held) in
-    said-faulty f r o _ (faulty (c .before .check .given .1) (c .before .before .before .file-fault .ensures))
+    said-faulty f r o _ (faulty (c .before .check .given .1) (at-file-fault .file-fault .ensures))
 
 enum-told : tie.Need-enum-told
 enum-told c = search needs
@@ -30,11 +32,14 @@ enum-told c = search needs
 returns-2 : tie.Need-returns-2
 unfolding readOf
 returns-2 c =
-    let a = c .before .before .before .before .before .before .args in
+    let at-file-fault = c .before .before .before in
+    let start = at-file-fault .before .before .before in
+    let a = start .args in
     let f = fileFault (now (a .bytes)) in
     let r = wordsOf (now (a .bytes)) in
     let o = now (a .held) in
-    said-short f r o _ (sound (c .before .enum-told .given .1) (c .before .before .before .file-fault .ensures)) (sym (words-length (now (a .bytes)))) (c .if1 .taken)
+    said-short f r o _ (sound (c .before .enum-told .given .1) (at-file-fault .file-fault .ensures)) (sym (words-length (now (a .bytes))))
+    (c .if1 .taken)
 
 copy-words-requires : tie.Need-copy-words-requires
 copy-words-requires c κs = (whole-file _ (sound (c .before .before .enum-told .given .1) (c .before .before .before .before .file-fault .ensures)) .0, omega (arith, c .before .if1 .left))
@@ -45,11 +50,15 @@ same-length c = search needs
 returns-3 : tie.Need-returns-3
 unfolding readOf
 returns-3 c =
-    let a = c .before .before .before .before .before .before .before .before .before .before .args in
+    let at-if1 = c .before .before .before .before in
+    let at-file-fault = at-if1 .before .before .before in
+    let start = at-file-fault .before .before .before in
+    let a = start .args in
     let f = fileFault (now (a .bytes)) in
     let r = wordsOf (now (a .bytes)) in
     let o = now (a .held) in
-    said-copied f r o _ _ (sound (c .before .before .before .before .before .enum-told .given .1) (c .before .before .before .before .before .before .before .file-fault .ensures)) (sym (words-length (now (a .bytes)))) (c .before .before .before .before .if1 .left) (c .before .before .copy-words .ensures)
+    said-copied f r o _ _ (sound (at-if1 .before .enum-told .given .1) (at-file-fault .file-fault .ensures))
+    (sym (words-length (now (a .bytes)))) (at-if1 .if1 .left) (c .before .before .copy-words .ensures)
 
 pub read-spec : {M : Type 1} → statement M
 read-spec =

@@ -4,10 +4,6 @@ use Rattle.surface.specs.FileSteps.{wholeIn, recordIn}
 use borrow.Author.Needs.{needs}
 use Rattle.surface.proofs.file.record_at.Statement.{statement}
 use Rattle.surface.proofs.file.record_at.Tie as tie
-use Rattle.surface.proofs.file.record_at.Reads as reads
-use Rattle.surface.proofs.file.record_at.Lts as lts
-use Rattle.surface.proofs.file.file_record.Reads as file-record-reads
-use Rattle.surface.proofs.file.held_record.Reads as held-record-reads
 
 enum-told : tie.Need-enum-told
 enum-told c = search needs

@@ -5,9 +5,6 @@ use Rattle.surface.specs.Laws.Records.{kind-unknown, kind-falls, kind-sp
 use borrow.Author.Needs.{needs}
 use Rattle.surface.proofs.file.sound_kind.Statement.{statement}
 use Rattle.surface.proofs.file.sound_kind.Tie as tie
-use Rattle.surface.proofs.file.sound_kind.Reads as reads
-use Rattle.surface.proofs.file.sound_kind.Lts as lts
-use Rattle.surface.proofs.file.spare_used.Reads as spare-used-reads
 
 array-read-kind : tie.Need-array-read-kind
 array-read-kind c = search needs
@@ -26,8 +23,10 @@ returns-3 c = kind-spare _ _ _ (sym (c .before .spare-used .ensures) ∙ c .if3 
 
 returns-4 : tie.Need-returns-4
 returns-4 c =
-    let s = c .before .before .before .before .before in
-    kind-kept _ _ _ (omega (arith, s .pre)) (c .before .before .before .if1 .left) (c .before .before .if2 .left) (sym (c .before .spare-used .ensures) ∙ c .if3 .left)
+    let at-if1 = c .before .before .before in
+    let s = at-if1 .before .before in
+    kind-kept _ _ _ (omega (arith, s .pre)) (at-if1 .if1 .left) (c .before .before .if2 .left)
+    (sym (c .before .spare-used .ensures) ∙ c .if3 .left)
 
 pub sound-kind-spec : {M : Type 1} → statement M
 sound-kind-spec =

@@ -2,8 +2,6 @@
 use Rattle.surface.specs.Laws.Records.{spare-vertex, spare-triangle, spare-question}
 use Rattle.surface.proofs.file.spare.Statement.{statement}
 use Rattle.surface.proofs.file.spare.Tie as tie
-use Rattle.surface.proofs.file.spare.Reads as reads
-use Rattle.surface.proofs.file.spare.Lts as lts
 
 returns : tie.Need-returns
 returns c = let s = c .before in spare-vertex (s .args .form) (s .args .kind) (s .args .j) (s .pre) (c .if1 .taken)

@@ -3,9 +3,6 @@ use mathlib.Core.Path.{sym, _∙_}
 use borrow.Author.Needs.{needs}
 use Rattle.surface.proofs.file.spare_filled.Statement.{statement}
 use Rattle.surface.proofs.file.spare_filled.Tie as tie
-use Rattle.surface.proofs.file.spare_filled.Reads as reads
-use Rattle.surface.proofs.file.spare_filled.Lts as lts
-use Rattle.surface.proofs.file.spare.Reads as spare-reads
 
 spare-requires : tie.Need-spare-requires
 spare-requires c κs = search needs

@@ -2,16 +2,13 @@
 use mathlib.Core.Path.{_≡_, refl, sym, _∙_}
 use mathlib.Core.Bool.{false}
 use Prim.Native.Nat.{_-_, _≤_}
-use lib.ListN.{length, getD}
+use lib.ListN.{getD}
 use Rattle.shape.specs.Gather.{any}
 use Rattle.shape.specs.Laws.Gather.{any-next, any-some}
 use Rattle.surface.specs.File.{spareUsed}
 use native.Mathlib.Omega.{arith}
 use Rattle.surface.proofs.file.spare_used.Statement.{statement}
 use Rattle.surface.proofs.file.spare_used.Tie as tie
-use Rattle.surface.proofs.file.spare_used.Reads as reads
-use Rattle.surface.proofs.file.spare_used.Lts as lts
-use Rattle.surface.proofs.file.spare_filled.Reads as spare-filled-reads
 
 abbrev Inv-loop : tie.InvT-loop
 Inv-loop form words kind j₀ j = (any (spareUsed form words) j ≡ false) × (kind ≡ getD words 0 0) × (j ≤ 8)

@@ -24,9 +24,11 @@ bad-record-if-requires c κs = search needs
 returns-2 : tie.Need-returns-2
 unfolding surfaceFault refuseFirst refuse found
 returns-2 c =
-    let a = c .before .before .before .before .before .before .args in
+    let at-count-records = c .before .before .before in
+    let start = at-count-records .before .before .before in
+    let a = start .args in
     let all = first-of-all (a .form) (now (a .bytes)) (now (a .held)) _ (c .before .first-bad .ensures) in
-    let n = c .before .before .before .count-records .ensures in
+    let n = at-count-records .count-records .ensures in
     rw (← n, le-ltb _ _ (c .before .before .if1 .left), ← (rw (← n) at all)) (c .bad-record-if .ensures)
 
 pub surface-fault-spec : {M : Type 1} → statement M

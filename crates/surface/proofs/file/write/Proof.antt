@@ -18,11 +18,13 @@ enum-known-check c = search needs
 returns : tie.Need-returns
 unfolding writeOf
 returns c =
-    let a = c .before .before .before .before .before .before .args in
+    let at-held-fault = c .before .before .before in
+    let start = at-held-fault .before .before .before in
+    let a = start .args in
     let f = heldFault (now (a .held)) in
     let r = bytesOf (now (a .held)) in
     let o = now (a .bytes) in
-    said-faulty f r o _ (faulty (c .before .check .given .1) (c .before .before .before .held-fault .ensures))
+    said-faulty f r o _ (faulty (c .before .check .given .1) (at-held-fault .held-fault .ensures))
 
 enum-told : tie.Need-enum-told
 enum-told c = search needs
@@ -33,11 +35,14 @@ mul-wanted c = search needs
 returns-2 : tie.Need-returns-2
 unfolding writeOf
 returns-2 c =
-    let a = c .before .before .before .before .before .before .args in
+    let at-held-fault = c .before .before .before in
+    let start = at-held-fault .before .before .before in
+    let a = start .args in
     let f = heldFault (now (a .held)) in
     let r = bytesOf (now (a .held)) in
     let o = now (a .bytes) in
-    said-short f r o _ (sound (c .before .enum-told .given .1) (c .before .before .before .held-fault .ensures)) (sym (bytes-length (now (a .held)))) (c .if1 .taken)
+    said-short f r o _ (sound (c .before .enum-told .given .1) (at-held-fault .held-fault .ensures)) (sym (bytes-length (now (a .held))))
+    (c .if1 .taken)
 
 copy-bytes-requires : tie.Need-copy-bytes-requires
 copy-bytes-requires c κs = (whole-held _ (sound (c .before .before .enum-told .given .1) (c .before .before .before .before .held-fault .ensures)) .0, omega (arith, c .before .if1 .left))
@@ -48,11 +53,15 @@ same-length c = search needs
 returns-3 : tie.Need-returns-3
 unfolding writeOf
 returns-3 c =
-    let a = c .before .before .before .before .before .before .before .before .before .before .args in
+    let at-if1 = c .before .before .before .before in
+    let at-held-fault = at-if1 .before .before .before in
+    let start = at-held-fault .before .before .before in
+    let a = start .args in
     let f = heldFault (now (a .held)) in
     let r = bytesOf (now (a .held)) in
     let o = now (a .bytes) in
-    said-copied f r o _ _ (sound (c .before .before .before .before .before .enum-told .given .1) (c .before .before .before .before .before .before .before .held-fault .ensures)) (sym (bytes-length (now (a .held)))) (c .before .before .before .before .if1 .left) (c .before .before .copy-bytes .ensures)
+    said-copied f r o _ _ (sound (at-if1 .before .enum-told .given .1) (at-held-fault .held-fault .ensures))
+    (sym (bytes-length (now (a .held)))) (at-if1 .if1 .left) (c .before .before .copy-bytes .ensures)
 
 pub write-spec : {M : Type 1} → statement M
 write-spec =

@@ -29,7 +29,19 @@ one-if-requires : tie.Need-one-if-requires Inv-loop μ-loop
 one-if-requires c κs = omega arith
 
 add-found : tie.Need-add-found Inv-loop μ-loop
-add-found c = let a = c .before .before .before .before .before .args in let l = c .before .before .before .loop in omega (arith, c .one-if .ensures, one-at-most (eqb (c .before .word .result) (a .kind)), howMany-le (isKind (wordsOf (now (a .bytes))) (a .kind)) (l .k), l .inv, c .before .before .before .before .before .pre)
+add-found c =
+    let at-loop = c .before .before .before in
+    let start = at-loop .before .before in
+    let a = start .args in
+    let l = at-loop .loop in
+    omega (
+      arith,
+      c .one-if .ensures,
+      one-at-most (eqb (c .before .word .result) (a .kind)),
+      howMany-le (isKind (wordsOf (now (a .bytes))) (a .kind)) (l .k),
+      l .inv,
+      start .pre,
+    )
 
 add-k : tie.Need-add-k Inv-loop μ-loop
 add-k c = omega arith
@@ -39,7 +51,20 @@ loop-less c = omega arith
 
 loop-again : tie.Need-loop-again Inv-loop μ-loop
 unfolding isKind
-loop-again c = let a = c .before .before .before .before .before .args in let l = c .before .before .before .loop in (rw (howMany-next (isKind (wordsOf (now (a .bytes))) (a .kind)) (l .k), ← (l .inv .0), ← (c .before .word .ensures), ← (c .one-if .ensures)), omega arith, l .inv .2)
+loop-again c =
+    let at-loop = c .before .before .before in
+    let start = at-loop .before .before in
+    let a = start .args in
+    let l = at-loop .loop in (
+      rw (
+        howMany-next (isKind (wordsOf (now (a .bytes))) (a .kind)) (l .k),
+        ← (l .inv .0),
+        ← (c .before .word .ensures),
+        ← (c .one-if .ensures),
+      ),
+      omega arith,
+      l .inv .2,
+    )
 
 returns : tie.Need-returns Inv-loop μ-loop
 unfolding countKind

@@ -25,7 +25,10 @@ single-requires-2 c κs = let s = c .before .before .before in let z = sized (wo
 
 returns : tie.Need-returns
 unfolding questionAt questionRecord
-returns c = let s = c .before .before .before .before in let z = sized (wordsOf (now (s .args .bytes))) (s .args .sizes) (s .pre .1) in rw (← (z .vertices-are), ← (z .triangles-are), c .single2 .ensures, c .before .single .ensures)
+returns c =
+    let s = c .before .before .before .before in
+    let z = sized (wordsOf (now (s .args .bytes))) (s .args .sizes) (s .pre .1) in
+    rw (← (z .vertices-are), ← (z .triangles-are), c .single2 .ensures, c .before .single .ensures)
 
 pub question-at-spec : {M : Type 1} → statement M
 question-at-spec =

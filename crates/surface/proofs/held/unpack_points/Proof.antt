@@ -32,13 +32,16 @@ question-at-requires c κs =
 
 put-point-requires : tie.Need-put-point-requires Inv-loop μ-loop
 put-point-requires c κs =
-    let s = c .before .before .before .before .before .before in
-    let l = c .before .before .before .loop in
+    let at-loop = c .before .before .before in
+    let s = at-loop .before .before .before in
+    let l = at-loop .loop in
     let z = sized (wordsOf (now (s .args .bytes))) (s .args .sizes) (s .pre .1) in
     omega (arith, put-length (l .inv .0), l .inv, c .before .before .loop-test .taken, z .questions-are, s .pre .2)
 
 add-k : tie.Need-add-k Inv-loop μ-loop
-add-k c = omega (arith, c .before .before .before .before .before .before .loop .inv, c .before .before .before .before .before .loop-test .taken)
+add-k c =
+    let at-loop-test = c .before .before .before .before .before in
+    omega (arith, at-loop-test .before .loop .inv, at-loop-test .loop-test .taken)
 
 loop-less : tie.Need-loop-less Inv-loop μ-loop
 loop-less c = omega (arith, c .before .before .before .before .before .loop-test .taken)
@@ -46,10 +49,18 @@ loop-less c = omega (arith, c .before .before .before .before .before .loop-test
 loop-again : tie.Need-loop-again Inv-loop μ-loop
 unfolding pointIn
 loop-again c =
-    let ws = wordsOf (now (c .before .before .before .before .before .before .before .before .before .args .bytes)) in
-    let l = c .before .before .before .before .before .before .loop in
-    let q = rw (c .before .before .before .question-at .ensures) at (c .before .before .put-point .ensures) in
-    (put-turn (pointIn ws) (l .k) (l .inv .0) q, omega (arith, q .ends, l .inv), omega (arith, c .before .before .before .before .before .loop-test .taken), l .inv .3, l .inv .4)
+    let at-question-at = c .before .before .before in
+    let at-loop = at-question-at .before .before .before in
+    let start = at-loop .before .before .before in
+    let ws = wordsOf (now (start .args .bytes)) in
+    let l = at-loop .loop in
+    let q = rw (at-question-at .question-at .ensures) at (c .before .before .put-point .ensures) in (
+      put-turn (pointIn ws) (l .k) (l .inv .0) q,
+      omega (arith, q .ends, l .inv),
+      omega (arith, at-question-at .before .before .loop-test .taken),
+      l .inv .3,
+      l .inv .4,
+    )
 
 same-length : tie.Need-same-length Inv-loop μ-loop
 same-length c = put-length (c .before .loop .inv .0)

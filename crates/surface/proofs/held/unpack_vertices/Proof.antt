@@ -7,7 +7,7 @@ use Rattle.shape.specs.Gather.{gather}
 use Rattle.shape.specs.Memory.{Put}
 use Rattle.shape.specs.Laws.Memory.{put-none, put-turn, put-length}
 use Rattle.surface.specs.File.{wordsOf}
-use Rattle.surface.specs.Held.{countKind, placeIn, verticesOf}
+use Rattle.surface.specs.Held.{countKind, placeIn, verticesIn}
 use Rattle.surface.specs.Laws.Held.{sized}
 use native.Mathlib.Omega.{arith}
 use Rattle.surface.proofs.held.unpack_vertices.Statement.{statement}
@@ -34,14 +34,29 @@ loop-less c = omega arith
 
 loop-again : tie.Need-loop-again Inv-loop μ-loop
 unfolding placeIn
-loop-again c = let l = c .before .before .before .before .before .loop in (put-turn (placeIn (wordsOf (now (c .before .before .before .before .before .before .before .before .args .bytes)))) (l .k) (l .inv .0) (c .before .before .put-singles .ensures), omega (arith, c .before .before .put-singles .ensures .ends, l .inv), omega arith, l .inv .3, l .inv .4)
+loop-again c =
+    let at-loop = c .before .before .before .before .before in
+    let start = at-loop .before .before .before in
+    let l = at-loop .loop in (
+      put-turn (placeIn (wordsOf (now (start .args .bytes)))) (l .k) (l .inv .0) (c .before .before .put-singles .ensures),
+      omega (arith, c .before .before .put-singles .ensures .ends, l .inv),
+      omega arith,
+      l .inv .3,
+      l .inv .4,
+    )
 
 same-length : tie.Need-same-length Inv-loop μ-loop
 same-length c = put-length (c .before .loop .inv .0)
 
 returns : tie.Need-returns Inv-loop μ-loop
-unfolding verticesOf
-returns c = let s = c .before .before .before .before in let z = sized (wordsOf (now (s .args .bytes))) (s .args .sizes) (s .pre .1) in let l = c .before .loop in let e : l .k ≡ countKind (wordsOf (now (s .args .bytes))) 1 = omega (arith, l .inv, z .vertices-are) in let f : l .at ≡ 3 * s .args .sizes .vertices = omega (arith, l .inv, z .vertices-are) in rw (e, f) at (l .inv .0)
+unfolding verticesIn
+returns c =
+    let s = c .before .before .before .before in
+    let z = sized (wordsOf (now (s .args .bytes))) (s .args .sizes) (s .pre .1) in
+    let l = c .before .loop in
+    let e : l .k ≡ countKind (wordsOf (now (s .args .bytes))) 1 = omega (arith, l .inv, z .vertices-are) in
+    let f : l .at ≡ 3 * s .args .sizes .vertices = omega (arith, l .inv, z .vertices-are) in
+    rw (e, f) at (l .inv .0)
 
 pub unpack-vertices-spec : {M : Type 1} → statement M
 unpack-vertices-spec =

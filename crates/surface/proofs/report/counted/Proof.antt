@@ -30,10 +30,14 @@ add-t13 : tie.Need-add-t13
 add-t13 c = search needs
 
 returns : tie.Need-returns
-returns c = let a = c .before .before .before .before .before .before .args in counts-found (a .k) (a .told) (c .before .before .before .before .line .given .1) (c .before .before .found-length .ensures .0)
+returns c =
+    let at-line = c .before .before .before .before in
+    let start = at-line .before .before in
+    let a = start .args in
+    counts-found (a .k) (a .totals) (at-line .line .given .1) (c .before .before .found-length .ensures .0)
 
 returns-2 : tie.Need-returns-2
-returns-2 c = let a = c .before .before .before .before .args in counts-none (a .k) (a .told) (c .before .before .enum-told .given .1) (c .before .none-length .ensures .0)
+returns-2 c = let a = c .before .before .before .before .args in counts-none (a .k) (a .totals) (c .before .before .enum-told .given .1) (c .before .none-length .ensures .0)
 
 pub counted-spec : {M : Type 1} → statement M
 counted-spec =

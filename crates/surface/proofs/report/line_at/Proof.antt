@@ -1,6 +1,8 @@
 -- `surface::report::line_at` meets its contract: the record tells the line. Assumes nothing.
 use mathlib.Core.Path.{_∙_}
+use Prim.Native.Nat.{_+_, _*_, _^_, _<_}
 use native.Mathlib.Omega.{arith}
+use Rattle.lookup.specs.Batch.{recordWords}
 use Rattle.surface.proofs.Telling.{tells-none, tells-found}
 use borrow.Author.Needs.{needs}
 use Rattle.surface.proofs.report.line_at.Statement.{statement}
@@ -78,18 +80,33 @@ shared-slice-read-wide c = search needs
 wide-requires : tie.Need-wide-requires
 wide-requires c κs = search needs
 
+-- the triangle's number is a word of the records
+abbrev start : tie.After-wide → tie.Start
+start c =
+    let at-height = c .before .before .before .before .before .before .before .before in
+    at-height .before .before .before .before .before .before
+
+small : (c : tie.After-wide) → c .wide .result < 2 ^ 32
+small c = omega (arith, c .wide .ensures, c .before .shared-slice-known8 .given (recordWords * start c .args .k + 5))
+
 lane-of-requires : tie.Need-lane-of-requires
-lane-of-requires c κs = search needs
+lane-of-requires c κs = let asked = start c .pre .0 in (asked .few, asked .sized, small c)
 
 wide-requires-2 : tie.Need-wide-requires-2
 wide-requires-2 c κs = search needs
 
 returns-2 : tie.Need-returns-2
 returns-2 c =
-    let far = c .before .before .before .before .before .before .before .before .before in
-    let s = far .before .before .before .before .before .before .before in
-    let lane = c .wide2 .ensures in
-    tells-found (s .pre .0) (s .pre .1 .0) (far .before .before .before .if1 .left) (far .before .from-bits32 .ensures) (c .before .before .before .before .before .before .before .before .from-bits322 .ensures) (c .before .before .before .before .before .before .from-bits323 .ensures) (c .before .before .before .before .from-bits324 .ensures) (c .before .before .wide .ensures) (lane .0 ∙ c .before .lane-of .ensures, lane .1)
+    let at-wide = c .before .before in
+    let at-z = at-wide .before .before in
+    let at-y = at-z .before .before in
+    let at-x = at-y .before .before in
+    let at-height = at-x .before .before in
+    let at-if = at-height .before .before in
+    let s = at-if .before .before .before .before in
+    tells-found (s .pre .0) (s .pre .1 .0) (at-if .if1 .left) (at-height .from-bits32 .ensures) (at-x .from-bits322 .ensures)
+    (at-y .from-bits323 .ensures) (at-z .from-bits324 .ensures) (at-wide .wide .ensures, small at-wide)
+    (c .wide2 .ensures ∙ c .before .lane-of .ensures, omega (arith, c .wide2 .ensures, c .before .lane-of .ok))
 
 pub line-at-spec : {M : Type 1} → statement M
 line-at-spec =

@@ -21,8 +21,10 @@ returns : tie.Need-returns
 returns c =
     let n = c .before in
     let r = n .before .before .before .before in
-    let s = r .before .before .before .before in
-    (printed-count (now (s .args .bytes)) (now (s .args .text)) (s .pre) (r .report .ensures .0) (n .n .given .1), printed-text (now (s .args .bytes)) (now (s .args .text)) (s .pre) (r .report .ensures .0) (n .n .given .1) (r .report .ensures .1))
+    let s = r .before .before .before .before in (
+      printed-count (now (s .args .bytes)) (now (s .args .text)) (s .pre) (r .report .ensures .0) (n .n .given .1),
+      printed-text (now (s .args .bytes)) (now (s .args .text)) (s .pre) (r .report .ensures .0) (n .n .given .1) (r .report .ensures .1),
+    )
 
 same-length-2 : tie.Need-same-length-2
 same-length-2 c = search needs

@@ -20,13 +20,19 @@ same-length : tie.Need-same-length
 same-length c = search needs
 
 returns : tie.Need-returns
-returns c = puts-found (c .before .before .before .before .before .before .before .before .args .k) (c .before .before .before .before .before .line .given .1) (c .before .before .put-found .ensures)
+returns c =
+    let at-line = c .before .before .before .before .before in
+    let start = at-line .before .before .before in
+    puts-found (start .args .k) (at-line .line .given .1) (c .before .before .put-found .ensures)
 
 same-length-2 : tie.Need-same-length-2
 same-length-2 c = search needs
 
 returns-2 : tie.Need-returns-2
-returns-2 c = puts-none (c .before .before .before .before .before .before .before .args .k) (c .before .before .before .before .enum-told .given .1) (c .before .before .put-none .ensures)
+returns-2 c =
+    let at-enum-told = c .before .before .before .before in
+    let start = at-enum-told .before .before .before in
+    puts-none (start .args .k) (at-enum-told .enum-told .given .1) (c .before .before .put-none .ensures)
 
 pub put-line-spec : {M : Type 1} → statement M
 put-line-spec =

@@ -33,26 +33,39 @@ line-at-requires c κs =
 
 put-line-requires : tie.Need-put-line-requires Inv-loop μ-loop
 put-line-requires c κs =
-    let s = c .before .before .before .before .before .before .before in
-    let l = c .before .before .before .loop in
+    let at-loop = c .before .before .before in
+    let s = at-loop .before .before .before .before in
+    let l = at-loop .loop in
     let t = c .line-at .ensures in
-    let k = c .before .before .loop-test .taken in
-    (t .words, omega (arith, k, asked-most (s .pre .0)), line-fits (wordsOf (now (s .args .bytes))) (l .k) t _ (l .inv .0) (omega (arith, k, asked-are (s .pre .0))) (omega (arith, s .pre .1 .1, l .inv .2)))
+    let k = c .before .before .loop-test .taken in (
+      t .words,
+      omega (arith, k, asked-most (s .pre .0)),
+      line-fits (wordsOf (now (s .args .bytes))) (l .k) t _ (l .inv .0) (omega (arith, k, asked-are (s .pre .0)))
+          (omega (arith, s .pre .1 .1, l .inv .2)),
+    )
 
 add-k : tie.Need-add-k Inv-loop μ-loop
 add-k c =
-    let far = c .before .before .before .before .before .before .before .before .before in
-    omega (arith, c .before .before .before .before .before .loop-test .taken, asked-most (far .before .pre .0))
+    let at-loop-test = c .before .before .before .before .before in
+    let far = at-loop-test .before .before .before .before in
+    let start = far .before in
+    omega (arith, at-loop-test .loop-test .taken, asked-most (start .pre .0))
 
 loop-less : tie.Need-loop-less Inv-loop μ-loop
 loop-less c = omega (arith, c .before .before .before .before .before .loop-test .taken)
 
 loop-again : tie.Need-loop-again Inv-loop μ-loop
 loop-again c =
-    let far = c .before .before .before .before .before .before .before .before .before in
-    let l = c .before .before .before .before .before .before .loop in
-    let p = c .before .before .put-line .ensures in
-    (next-line (wordsOf (now (far .before .args .bytes))) (l .k) (c .before .before .before .line-at .ensures) (l .inv .0) p, omega (arith, c .before .before .before .before .before .loop-test .taken), omega (arith, put-length p, l .inv .2))
+    let at-line-at = c .before .before .before in
+    let at-loop = at-line-at .before .before .before in
+    let far = at-loop .before .before .before in
+    let start = far .before in
+    let l = at-loop .loop in
+    let p = c .before .before .put-line .ensures in (
+      next-line (wordsOf (now (start .args .bytes))) (l .k) (at-line-at .line-at .ensures) (l .inv .0) p,
+      omega (arith, at-line-at .before .before .loop-test .taken),
+      omega (arith, put-length p, l .inv .2),
+    )
 
 put-asked-requires : tie.Need-put-asked-requires Inv-loop μ-loop
 put-asked-requires c κs =
@@ -69,10 +82,12 @@ same-length c = omega (arith, put-length (c .before .before .put-asked .ensures)
 
 returns : tie.Need-returns Inv-loop μ-loop
 returns c =
-    let s = c .before .before .before .before .before .before .before .before .before in
-    let l = c .before .before .before .before .before .loop in
-    let e : l .k ≡ s .args .sizes .questions = omega (arith, l .inv .1, c .before .before .before .before .loop-test .left) in
-    last-line (wordsOf (now (s .args .bytes))) (rw e at (l .inv .0)) (asked-are (s .pre .0)) (s .pre .1 .0) (c .before .before .put-asked .ensures)
+    let at-loop-test = c .before .before .before .before in
+    let s = at-loop-test .before .before .before .before .before in
+    let l = at-loop-test .before .loop in
+    let e : l .k ≡ s .args .sizes .questions = omega (arith, l .inv .1, at-loop-test .loop-test .left) in
+    last-line (wordsOf (now (s .args .bytes))) (rw e at (l .inv .0)) (asked-are (s .pre .0)) (s .pre .1 .0)
+    (c .before .before .put-asked .ensures)
 
 pub put-lines-spec : {M : Type 1} → statement M
 put-lines-spec =

@@ -15,10 +15,10 @@ use Rattle.surface.proofs.report.tally.Statement.{statement}
 use Rattle.surface.proofs.report.tally.Tie as tie
 
 abbrev Inv-loop : tie.InvT-loop
-Inv-loop bytes sizes records n told₀ k₀ told k = (told .size ≡ length (gather (lineAt (wordsOf bytes)) k)) × (told .found ≡ howMany (answeredAt (wordsOf bytes)) k) × (k ≤ n)
+Inv-loop bytes sizes records n totals₀ k₀ totals k = (totals .size ≡ length (gather (lineAt (wordsOf bytes)) k)) × (totals .found ≡ howMany (answeredAt (wordsOf bytes)) k) × (k ≤ n)
 
 abbrev μ-loop : tie.MeasureT-loop
-μ-loop bytes sizes records n told₀ k₀ told k = n - k
+μ-loop bytes sizes records n totals₀ k₀ totals k = n - k
 
 loop-holds : tie.Need-loop-holds Inv-loop μ-loop
 unfolding gather howMany
@@ -47,11 +47,16 @@ loop-less c = omega (arith, c .before .before .loop-test .taken)
 
 loop-again : tie.Need-loop-again Inv-loop μ-loop
 loop-again c =
-    let ws = wordsOf (now (c .before .before .before .before .before .before .args .bytes)) in
-    let l = c .before .before .before .loop in
+    let at-loop = c .before .before .before in
+    let start = at-loop .before .before .before in
+    let ws = wordsOf (now (start .args .bytes)) in
+    let l = at-loop .loop in
     let t = c .before .line-at .ensures in
-    let e = c .counted .ensures in
-    (next-size ws (l .k) t _ _ (l .inv .0) (e .0), next-found ws (l .k) t _ _ (l .inv .1) (e .1), omega (arith, c .before .before .loop-test .taken))
+    let e = c .counted .ensures in (
+      next-size ws (l .k) t _ _ (l .inv .0) (e .0),
+      next-found ws (l .k) t _ _ (l .inv .1) (e .1),
+      omega (arith, c .before .before .loop-test .taken),
+    )
 
 returns : tie.Need-returns Inv-loop μ-loop
 returns c =

@@ -25,7 +25,11 @@ mul-records c =
     let t = n .before .before .before in
     let p13 = t .before .before .before .before .before .before .before .before .before in
     let s = p13 .before in
-    omega (arith, count-most (s .pre .0) (s .pre .1 .0) (s .pre .1 .1) _ (length-replicate {A = ℕ} 16384 0) (t .tops .result) (t .tops .ensures .0) (n .n .given .1))
+    omega (
+      arith,
+      count-most (s .pre .0) (s .pre .1 .0) (s .pre .1 .1) _ (length-replicate {A = ℕ} 16384 0) (t .tops .result) (t .tops .ensures .0)
+          (n .n .given .1),
+    )
 
 array-share-prefix-records : tie.Need-array-share-prefix-records
 array-share-prefix-records c =
@@ -33,7 +37,9 @@ array-share-prefix-records c =
     let t = n .before .before .before in
     let p13 = t .before .before .before .before .before .before .before .before .before in
     let s = p13 .before in
-    front-fits _ _ (records-part (s .pre .0) (s .pre .1 .0) (s .pre .1 .1) _ (length-replicate {A = ℕ} 16384 0) (t .tops .result) (t .tops .ensures .0) (n .n .given .1) _ _ (t .tops .ensures .1))
+    front-fits _ _
+    (records-part (s .pre .0) (s .pre .1 .0) (s .pre .1 .1) _ (length-replicate {A = ℕ} 16384 0) (t .tops .result) (t .tops .ensures .0)
+    (n .n .given .1) _ _ (t .tops .ensures .1))
 
 slice-aggregate-tell-lines : tie.Need-slice-aggregate-tell-lines
 slice-aggregate-tell-lines c =
@@ -41,7 +47,8 @@ slice-aggregate-tell-lines c =
     let t = n .before .before .before in
     let p14 = t .before .before .before .before .before .before .before .before .before in
     let s = p14 .before in
-    records-part (s .pre .0) (s .pre .1 .0) (s .pre .1 .1) _ (length-replicate {A = ℕ} 16384 0) (t .tops .result) (t .tops .ensures .0) (n .n .given .1) _ _ (t .tops .ensures .1)
+    records-part (s .pre .0) (s .pre .1 .0) (s .pre .1 .1) _ (length-replicate {A = ℕ} 16384 0) (t .tops .result) (t .tops .ensures .0)
+    (n .n .given .1) _ _ (t .tops .ensures .1)
 
 tell-lines-requires : tie.Need-tell-lines-requires
 tell-lines-requires c κs =
@@ -49,7 +56,8 @@ tell-lines-requires c κs =
     let t = n .before .before .before in
     let p15 = t .before .before .before .before .before .before .before .before .before in
     let s = p15 .before in
-    asked (s .pre .0) (s .pre .1 .0) (s .pre .1 .1) _ (length-replicate {A = ℕ} 16384 0) (t .tops .result) (t .tops .ensures .0) (n .n .given .1) _ _ (t .tops .ensures .1)
+    asked (s .pre .0) (s .pre .1 .0) (s .pre .1 .1) _ (length-replicate {A = ℕ} 16384 0) (t .tops .result) (t .tops .ensures .0)
+    (n .n .given .1) _ _ (t .tops .ensures .1)
 
 enum-known-r : tie.Need-enum-known-r
 enum-known-r c = search needs
@@ -66,7 +74,9 @@ returns-2 c =
     let t = n .before .before .before in
     let p13 = t .before .before .before .before .before .before .before .before .before in
     let s = p13 .before in
-    absurd (never-turned-back (s .pre .0) (s .pre .1 .0) (s .pre .1 .1) _ (length-replicate {A = ℕ} 16384 0) (t .tops .result) (t .tops .ensures .0) (n .r .given .1))
+    absurd
+    (never-turned-back (s .pre .0) (s .pre .1 .0) (s .pre .1 .1) _ (length-replicate {A = ℕ} 16384 0) (t .tops .result) (t .tops .ensures .0)
+    (n .r .given .1))
 
 pub tell-answers-spec : {M : Type 1} → statement M
 tell-answers-spec =

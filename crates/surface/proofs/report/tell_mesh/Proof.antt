@@ -33,21 +33,30 @@ array-share-prefix-index c =
     let n = c .before in
     let b = n .before .before .before in
     let s = b .before .before .before .before .before .before .before .before .before in
-    front-fits _ _ (index-length (s .pre) _ (length-replicate {A = ℕ} 16384 0) (b .build .result) (b .build .ensures .0) (n .n .given .1) _ _ (b .build .ensures .1))
+    front-fits _ _ (index-length (s .pre) _ (length-replicate {A = ℕ} 16384 0) (b .build .result) (b .build .ensures .0) (n .n .given .1) _ _
+    (b .build .ensures .1))
 
 slice-aggregate-tell-answers : tie.Need-slice-aggregate-tell-answers
 slice-aggregate-tell-answers c =
     let n = c .before .before in
     let b = n .before .before .before in
     let s = b .before .before .before .before .before .before .before .before .before in
-    index-length (s .pre) _ (length-replicate {A = ℕ} 16384 0) (b .build .result) (b .build .ensures .0) (n .n .given .1) _ _ (b .build .ensures .1)
+    index-length (s .pre) _ (length-replicate {A = ℕ} 16384 0) (b .build .result) (b .build .ensures .0) (n .n .given .1) _ _
+    (b .build .ensures .1)
 
 tell-answers-requires : tie.Need-tell-answers-requires
 tell-answers-requires c κs =
     let n = c .before .before .before in
     let b = n .before .before .before in
-    let s = b .before .before .before .before .before .before .before .before .before in
-    (s .pre, (index-front (s .pre) _ (length-replicate {A = ℕ} 16384 0) (b .build .result) (b .build .ensures .0) (n .n .given .1) _ _ (b .build .ensures .1), built-whole (s .pre) _ (length-replicate {A = ℕ} 16384 0) (b .build .result) (b .build .ensures .0) (n .n .given .1) _ _ (b .build .ensures .1)))
+    let s = b .before .before .before .before .before .before .before .before .before in (
+      s .pre,
+      (
+        index-front (s .pre) _ (length-replicate {A = ℕ} 16384 0) (b .build .result) (b .build .ensures .0) (n .n .given .1) _ _
+            (b .build .ensures .1),
+        built-whole (s .pre) _ (length-replicate {A = ℕ} 16384 0) (b .build .result) (b .build .ensures .0) (n .n .given .1) _ _
+            (b .build .ensures .1),
+      ),
+    )
 
 same-length : tie.Need-same-length
 same-length c = search needs
@@ -58,7 +67,8 @@ returns c =
     let n = q .before .before .before in
     let b = n .before .before .before in
     let s = b .before .before .before .before .before .before .before .before .before in
-    says-same (built-refused (s .pre) _ (length-replicate {A = ℕ} 16384 0) (b .build .result) (b .build .ensures .0) (n .r .given .1)) (q .tell-refusal .ensures)
+    says-same (built-refused (s .pre) _ (length-replicate {A = ℕ} 16384 0) (b .build .result) (b .build .ensures .0) (n .r .given .1))
+    (q .tell-refusal .ensures)
 
 same-length-2 : tie.Need-same-length-2
 same-length-2 c = search needs
@@ -69,7 +79,8 @@ returns-2 c =
     let n = q .before .before .before .before in
     let b = n .before .before .before in
     let s = b .before .before .before .before .before .before .before .before .before in
-    says-same (built-words (s .pre) _ (length-replicate {A = ℕ} 16384 0) (b .build .result) (b .build .ensures .0) (n .n .given .1)) (q .tell-answers .ensures)
+    says-same (built-words (s .pre) _ (length-replicate {A = ℕ} 16384 0) (b .build .result) (b .build .ensures .0) (n .n .given .1))
+    (q .tell-answers .ensures)
 
 pub tell-mesh-spec : {M : Type 1} → statement M
 tell-mesh-spec =

@@ -49,7 +49,10 @@ put-decimal-returns : (t : ℕ) → put-decimal-lts.Need-returns (
   put-decimal-below t,
   put-decimal.Post,
 ) (put-decimal-at t) put-decimal.Post
-put-decimal-returns t c = λ k h. rw (← (digits-one k (c .before .before .before .before .before .before .args .n) (c .before .before .before .before .if1 .taken))) (c .before .before .put-digit .ensures)
+put-decimal-returns t c =
+    let at-if1 = c .before .before .before .before in
+    let start = at-if1 .before .before in
+    λ k h. rw (← (digits-one k (start .args .n) (at-if1 .if1 .taken))) (c .before .before .put-digit .ensures)
 
 put-decimal-put-decimal-requires : (t : ℕ) → put-decimal-lts.Need-put-decimal-requires (
   put-digit-reads.Asked,
@@ -70,11 +73,12 @@ put-decimal-put-digit-requires-2 : (t : ℕ) → put-decimal-lts.Need-put-digit-
   put-decimal.Post,
 ) (put-decimal-at t) put-decimal.Post
 put-decimal-put-digit-requires-2 t c κs =
-    let n = c .before .before .before .before .before .before .before .args .n in
-    let s = c .before .before .before .before .before .before .before in
+    let at-put-decimal = c .before .before .before in
+    let s = at-put-decimal .before .before .before .before in
+    let n = s .args .n in
     let b : n / 10 < 10000000000 = omega (arith, s .pre .1) in
-    let p = c .before .before .before .put-decimal .ensures 9 b in
-    let e = decimal-more n (c .before .before .before .before .before .if1 .left) (s .pre .1 .1) in
+    let p = at-put-decimal .put-decimal .ensures 9 b in
+    let e = decimal-more n (at-put-decimal .before .before .if1 .left) (s .pre .1 .1) in
     omega (arith, s .pre .1, e, p .ends, put-length p)
 
 put-decimal-same-length-2 : (t : ℕ) → put-decimal-lts.Need-same-length-2 (
@@ -91,7 +95,11 @@ put-decimal-returns-2 : (t : ℕ) → put-decimal-lts.Need-returns-2 (
   put-decimal-below t,
   put-decimal.Post,
 ) (put-decimal-at t) put-decimal.Post
-put-decimal-returns-2 t c = digits-last _ _ _ _ _ _ (c .before .before .before .before .before .before .before .before .before .before .args .n) (c .before .before .before .before .before .before .before .before .if1 .left) (c .before .before .before .before .before .before .put-decimal .ensures) (c .before .before .put-digit2 .ensures)
+put-decimal-returns-2 t c =
+    let at-put-decimal = c .before .before .before .before .before .before in
+    let start = at-put-decimal .before .before .before .before in
+    digits-last _ _ _ _ _ _ (start .args .n) (at-put-decimal .before .before .if1 .left) (at-put-decimal .put-decimal .ensures)
+    (c .before .before .put-digit2 .ensures)
 
 pub +put-decimal-spec : {M : Type 1} → statement M
 +put-decimal-spec = close μ-put-decimal λ t. put-decimal-lts.spec (

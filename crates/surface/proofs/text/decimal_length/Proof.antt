@@ -1,6 +1,6 @@
 -- `surface::text::decimal_length` meets its contract: the digits that are cut off are counted. Assumes nothing.
 use mathlib.Core.Path.{_≡_}
-use Prim.Native.Nat.{_+_, _/_, _<_, _≤_, _^_}
+use Prim.Native.Nat.{_+_, _<_, _≤_, _^_}
 use native.Mathlib.Omega.{arith}
 use lib.ListN.{length}
 use Rattle.surface.specs.Text.{decimal}

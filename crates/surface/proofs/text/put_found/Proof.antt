@@ -41,11 +41,16 @@ same-length c = search needs
 returns : tie.Need-returns
 unfolding foundLine
 returns c =
-    let a = c .before .before .before .before .before .before .before .before .before .before .before .before .before .before .before .before .before .before .before .before .before .before .before .before .before .put-number .ensures in
-    let b = c .before .before .before .before .before .before .before .before .before .before .before .before .before .before .before .before .before .before .before .before .put-float .ensures in
-    let d = c .before .before .before .before .before .before .before .before .before .before .before .before .before .before .before .before .put-normal .ensures in
-    let e = c .before .before .before .before .before .before .before .before .before .before .before .put-number2 .ensures in
-    let f = c .before .before .before .before .before .before .before .put-lane .ensures in
+    let at-put-lane = c .before .before .before .before .before .before .before in
+    let at-put-number2 = at-put-lane .before .before .before .before in
+    let at-put-normal = at-put-number2 .before .before .before .before .before in
+    let at-put-float = at-put-normal .before .before .before .before in
+    let at-put-number = at-put-float .before .before .before .before .before in
+    let a = at-put-number .put-number .ensures in
+    let b = at-put-float .put-float .ensures in
+    let d = at-put-normal .put-normal .ensures in
+    let e = at-put-number2 .put-number2 .ensures in
+    let f = at-put-lane .put-lane .ensures in
     let g = c .before .before .put-bytes .ensures in
     put-then (put-then (put-then (put-then (put-then (a .0) (b .0)) (d .0)) (e .0)) f) g
 

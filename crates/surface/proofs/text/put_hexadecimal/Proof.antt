@@ -85,7 +85,22 @@ same-length c = simp length-set
 
 returns : tie.Need-returns
 unfolding hexadecimal
-returns c = record { memory = rw (c .hex-digit8 .ensures, c .before .hex-digit7 .ensures, c .before .before .hex-digit6 .ensures, c .before .before .before .hex-digit5 .ensures, c .before .before .before .before .hex-digit4 .ensures, c .before .before .before .before .before .hex-digit3 .ensures, c .before .before .before .before .before .before .hex-digit2 .ensures, c .before .before .before .before .before .before .before .hex-digit .ensures) (simp towards-suc); ends = refl }
+returns c =
+    let at-hex-digit5 = c .before .before .before in
+    let at-hex-digit2 = at-hex-digit5 .before .before .before in
+    record {
+      memory = rw (
+        c .hex-digit8 .ensures,
+        c .before .hex-digit7 .ensures,
+        c .before .before .hex-digit6 .ensures,
+        at-hex-digit5 .hex-digit5 .ensures,
+        at-hex-digit5 .before .hex-digit4 .ensures,
+        at-hex-digit5 .before .before .hex-digit3 .ensures,
+        at-hex-digit2 .hex-digit2 .ensures,
+        at-hex-digit2 .before .hex-digit .ensures,
+      ) (simp towards-suc);
+      ends = refl;
+    }
 
 pub put-hexadecimal-spec : {M : Type 1} → statement M
 put-hexadecimal-spec =

@@ -17,8 +17,10 @@ same-length c = search needs
 
 returns : tie.Need-returns
 returns c =
+    let at-if1 = c .before .before .before .before .before in
+    let start = at-if1 .before .before in
     let p = c .before .before .put-bytes .ensures in
-    lane-none (c .before .before .before .before .before .before .before .args .lane) (c .before .before .before .before .before .if1 .taken) p
+    lane-none (start .args .lane) (at-if1 .if1 .taken) p
 
 slice-aggregate-put-number : tie.Need-slice-aggregate-put-number
 slice-aggregate-put-number c = search needs
@@ -34,8 +36,10 @@ same-length-2 c = search needs
 
 returns-2 : tie.Need-returns-2
 returns-2 c =
+    let at-if1 = c .before .before .before .before .before in
+    let start = at-if1 .before .before in
     let p = c .before .before .put-number .ensures in
-    lane-some (c .before .before .before .before .before .before .before .args .lane) (c .before .before .before .before .before .if1 .left) (p .0)
+    lane-some (start .args .lane) (at-if1 .if1 .left) (p .0)
 
 pub put-lane-spec : {M : Type 1} → statement M
 put-lane-spec =

@@ -30,8 +30,10 @@ same-length c = search needs
 returns : tie.Need-returns
 unfolding normalText
 returns c =
-    let p = c .before .before .before .before .before .before .before .before .before .before .before .before .put-float .ensures in
-    let q = c .before .before .before .before .before .before .before .put-float2 .ensures in
+    let at-put-float2 = c .before .before .before .before .before .before .before in
+    let at-put-float = at-put-float2 .before .before .before .before .before in
+    let p = at-put-float .put-float .ensures in
+    let q = at-put-float2 .put-float2 .ensures in
     let r = c .before .before .put-float3 .ensures in
     (put-then (put-then (p .0) (q .0)) (r .0), omega (arith, p .1, q .1, r .1))
 

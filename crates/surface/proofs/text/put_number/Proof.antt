@@ -16,8 +16,10 @@ same-length c = search needs
 
 returns : tie.Need-returns
 returns c =
-    let p = c .before .before .before .before .before .before .put-bytes .ensures in
-    let q = c .before .before .put-decimal .ensures 9 (omega (arith, c .before .before .before .before .before .before .before .before .before .before .pre)) in
+    let at-put-bytes = c .before .before .before .before .before .before in
+    let start = at-put-bytes .before .before .before .before in
+    let p = at-put-bytes .put-bytes .ensures in
+    let q = c .before .before .put-decimal .ensures 9 (omega (arith, start .pre)) in
     (put-then p q, omega (arith, p .ends, q .ends))
 
 pub put-number-spec : {M : Type 1} → statement M

@@ -20,7 +20,11 @@ same-length : tie.Need-same-length
 same-length c = search needs
 
 returns : tie.Need-returns
-returns c = put-then (put-then (c .before .before .before .before .before .before .before .before .before .before .before .put-number .ensures .0) (c .before .before .before .before .before .before .before .put-number2 .ensures .0)) (c .before .before .put-bytes .ensures)
+returns c =
+    let at-put-number2 = c .before .before .before .before .before .before .before in
+    let at-put-number = at-put-number2 .before .before .before .before in
+    put-then (put-then (at-put-number .put-number .ensures .0) (at-put-number2 .put-number2 .ensures .0))
+    (c .before .before .put-bytes .ensures)
 
 pub put-pair-spec : {M : Type 1} → statement M
 put-pair-spec =

@@ -15,7 +15,10 @@ is-finite32-requires-3 c κs = search needs
 
 returns : tie.Need-returns
 unfolding allFinite
-returns c = rw (← c .before .before .before .before .is-finite32 .ensures, c .before .before .before .if1 .taken, ← c .before .before .is-finite322 .ensures, c .before .if2 .taken) (c .is-finite323 .ensures)
+returns c =
+    let at-if1 = c .before .before .before in
+    rw (← at-if1 .before .is-finite32 .ensures, at-if1 .if1 .taken, ← c .before .before .is-finite322 .ensures, c .before .if2 .taken)
+    (c .is-finite323 .ensures)
 
 returns-2 : tie.Need-returns-2
 unfolding allFinite

@@ -25,7 +25,16 @@ normalize-or-requires c κs = search needs
 
 returns : tie.Need-returns
 unfolding smoothOf upVector
-returns c = rw (c .normalize-or .ensures, c .before .add2 .ensures, c .before .before .mul3 .ensures, c .before .before .before .add .ensures, c .before .before .before .before .mul2 .ensures, c .before .before .before .before .before .mul .ensures)
+returns c =
+    let at-add = c .before .before .before in
+    rw (
+      c .normalize-or .ensures,
+      c .before .add2 .ensures,
+      c .before .before .mul3 .ensures,
+      at-add .add .ensures,
+      at-add .before .mul2 .ensures,
+      at-add .before .before .mul .ensures,
+    )
 
 pub smooth-spec : {M : Type 1} → statement M
 smooth-spec =

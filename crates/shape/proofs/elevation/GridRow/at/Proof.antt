@@ -30,7 +30,11 @@ side-requires-2 c κs = search needs
 
 returns-3 : tie.Need-returns-3
 unfolding columnOf
-returns-3 c = let h : c .before .before .before .before .before .before .args .j < 2048 = omega (arith, c .before .before .if2 .left, c .before .before .before .if1 .left) in rw (right-line (c .before .before .before .before .before .before .args .j) h) (c .side2 .ensures)
+returns-3 c =
+    let at-if1 = c .before .before .before in
+    let start = at-if1 .before .before .before in
+    let h : start .args .j < 2048 = omega (arith, c .before .before .if2 .left, at-if1 .if1 .left) in
+    rw (right-line (start .args .j) h) (c .side2 .ensures)
 
 pub at-spec : {M : Type 1} → statement M
 at-spec =

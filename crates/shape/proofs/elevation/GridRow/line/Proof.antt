@@ -26,7 +26,11 @@ at-requires-4 : tie.Need-at-requires-4
 at-requires-4 c κs = search needs
 
 returns : tie.Need-returns
-returns c = line-is _ (c .before .before .before .before .before .before .args .j) (c .before .before .before .before .before .before .pre .2) _ _ _ _ (c .before .before .before .at .ensures) (c .before .before .at2 .ensures) (c .before .at3 .ensures) (c .at4 .ensures)
+returns c =
+    let at-at = c .before .before .before in
+    let start = at-at .before .before .before in
+    line-is _ (start .args .j) (start .pre .2) _ _ _ _ (at-at .at .ensures) (c .before .before .at2 .ensures) (c .before .at3 .ensures)
+    (c .at4 .ensures)
 
 pub line-spec : {M : Type 1} → statement M
 line-spec =

@@ -15,7 +15,10 @@ mul-requires c κs = search needs
 
 returns : tie.Need-returns
 unfolding normalizeOr
-returns c = rw (← c .before .before .before .before .length .ensures, ← c .before .before .before .is-finite32 .ensures, c .before .before .if1 .taken, c .before .if2 .taken) (c .mul .ensures)
+returns c =
+    let at-is-finite32 = c .before .before .before in
+    rw (← at-is-finite32 .before .length .ensures, ← at-is-finite32 .is-finite32 .ensures, c .before .before .if1 .taken, c .before .if2 .taken)
+    (c .mul .ensures)
 
 returns-2 : tie.Need-returns-2
 unfolding normalizeOr

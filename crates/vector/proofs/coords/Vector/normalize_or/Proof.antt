@@ -20,10 +20,11 @@ mul-requires c κs = search needs
 returns : tie.Need-returns
 unfolding ofBits
 returns c =
-    let s = c .before .before .before .before .before in
-    let near = c .before .before .before .root-near-one in
+    let at-root-near-one = c .before .before .before in
+    let s = at-root-near-one .before .before in
+    let near = at-root-near-one .root-near-one in
     let p = near-positive _ (near .result .root) (near .result .is) (near .ensures .0) (near .ensures .1) (c .before .before .if1 .taken) in
-    let h = subst (λ (x : Float). PositiveRoot x (near .result .root)) (c .before .before .before .before .length-squared .ensures) p in
+    let h = subst (λ (x : Float). PositiveRoot x (near .result .root)) (at-root-near-one .before .length-squared .ensures) p in
     c .mul .ensures ∙ over-root (s .args .self) (s .args .fallback) (near .result .root) h
 
 normalize-any-requires : tie.Need-normalize-any-requires

@@ -27,7 +27,18 @@ add-requires-2 c κs = search needs
 
 returns : tie.Need-returns
 unfolding turnedOf
-returns c = rw (c .add2 .ensures, c .before .add .ensures, c .before .before .mul3 .ensures, c .before .before .before .cross .ensures, c .before .before .before .before .mul2 .ensures, c .before .before .before .before .before .mul .ensures, c .before .before .before .before .before .before .dot .ensures)
+returns c =
+    let at-cross = c .before .before .before in
+    let at-dot = at-cross .before .before .before in
+    rw (
+      c .add2 .ensures,
+      c .before .add .ensures,
+      c .before .before .mul3 .ensures,
+      at-cross .cross .ensures,
+      at-cross .before .mul2 .ensures,
+      at-cross .before .before .mul .ensures,
+      at-dot .dot .ensures,
+    )
 
 pub turned-spec : {M : Type 1} → statement M
 turned-spec =
