@@ -9,7 +9,7 @@ use vector::coords::Point;
 
 // A box on the ground. The bounds stand in this order so that the compiler works the lower ones out in one
 // instruction, and the upper ones.
-#[derive(Drop)]
+#[derive(Clone, Copy)]
 pub struct Aabb {
     pub min_x: f32,
     pub min_y: f32,
@@ -18,7 +18,7 @@ pub struct Aabb {
 }
 
 // The box of a triangle or of a row of them, or that there is none.
-#[derive(Drop)]
+#[derive(Clone, Copy)]
 pub enum Boxed {
     Box(Aabb),
     None,

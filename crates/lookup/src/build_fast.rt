@@ -106,7 +106,7 @@ fn sound(b: Aabb) -> bool
 
 // What is known of the triangles: how many have a box, and the box around these. Where they are narrow, no
 // box is wider or higher than is said here.
-#[derive(Drop)]
+#[derive(Clone, Copy)]
 pub(crate) struct Tally {
     pub count: u32,
     pub extent: Boxed,

@@ -15,7 +15,7 @@ pub const MAX_WORDS: usize = 4194304;
 
 // Where a point's candidates stand in the index: from a place up to another; or nowhere; or why the
 // call was turned back.
-#[derive(Drop)]
+#[derive(Clone, Copy)]
 pub enum Consulted {
     Run(usize, usize),
     Nowhere,
@@ -23,7 +23,7 @@ pub enum Consulted {
 }
 
 // The cell that holds a point, if the grid does.
-#[derive(Drop)]
+#[derive(Clone, Copy)]
 enum PointCell {
     Cell(usize),
     Outside,
@@ -32,7 +32,7 @@ enum PointCell {
 // ---- the first words
 
 // The words of an index before the starts, but for the first.
-#[derive(Drop)]
+#[derive(Clone, Copy)]
 pub struct Front {
     pub cols: usize,
     pub rows: usize,
@@ -46,7 +46,7 @@ pub struct Front {
 
 // What the first words tell for every point: that cells may be consulted, that there are none, or why the
 // call is turned back.
-#[derive(Drop)]
+#[derive(Clone, Copy)]
 pub enum Opened {
     Open(Front),
     Empty,

@@ -15,7 +15,7 @@ use rounding::whole::ceil32;
 // ---- the frame
 
 // The extent of the boxes, the side of a cell, and how many cells there are on each side.
-#[derive(Drop)]
+#[derive(Clone, Copy)]
 pub struct Frame {
     pub min_x: f32,
     pub min_y: f32,
@@ -128,7 +128,7 @@ pub(crate) fn col(m: f32, cell: f32, count: usize, x: f32) -> usize
 // ---- the cells of a box
 
 // A block of cells: its first and last column, its first and last row.
-#[derive(Drop)]
+#[derive(Clone, Copy)]
 pub struct Block {
     pub left: usize,
     pub right: usize,

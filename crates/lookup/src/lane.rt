@@ -8,14 +8,14 @@ use rounding::bits::wide;
 use shape::lists::{SPAN_ID, SPAN_INDICES, SPAN_INDICES_END, SPAN_WORDS, record_word};
 
 // A lane by its id, or that the spans name none.
-#[derive(Drop)]
+#[derive(Clone, Copy)]
 pub enum Lane {
     Id(usize),
     None,
 }
 
 // A part of the spans: the first of them, and how many there are.
-#[derive(Drop)]
+#[derive(Clone, Copy)]
 struct Part {
     low: usize,
     size: usize,

@@ -17,14 +17,14 @@ use shape::refusal::{Check, Refusal};
 use vector::coords::{Point, Vector};
 
 // The corners of a triangle, or that one lies past the vertices.
-#[derive(Drop)]
+#[derive(Clone, Copy)]
 pub enum Fetch {
     Corners(Point, Point, Point),
     Missing,
 }
 
 // The weights of the three corners at a point, and the determinant that they were divided by.
-#[derive(Drop)]
+#[derive(Clone, Copy)]
 pub struct Weights {
     pub det: f32,
     pub a: f32,
@@ -33,21 +33,21 @@ pub struct Weights {
 }
 
 // The highest triangle so far: its height and number.
-#[derive(Drop)]
+#[derive(Clone, Copy)]
 pub enum Best {
     At(f32, usize),
     Nothing,
 }
 
 // The same with the weights of its corners at the point.
-#[derive(Drop)]
+#[derive(Clone, Copy)]
 pub struct Peak {
     pub best: Best,
     pub weights: Weights,
 }
 
 // What the plain lookup answers: height, normal and triangle, or none, or why the call is turned back.
-#[derive(Drop)]
+#[derive(Clone, Copy)]
 pub enum Answer {
     Found(f32, Vector, usize),
     None,
@@ -321,7 +321,7 @@ pub(crate) fn normal_by(
 // ---- the scan of a run, by sixteens
 
 // The peak of a run, and whether each triangle of it is there.
-#[derive(Drop)]
+#[derive(Clone, Copy)]
 pub struct Hit {
     pub peak: Peak,
     pub whole: bool,

@@ -16,7 +16,7 @@ use rounding::bits::bits32;
 use shape::refusal::{Refusal, number, place};
 
 // What came of a call for many points: how many there were, or why it was turned back.
-#[derive(Drop)]
+#[derive(Clone, Copy)]
 pub enum Sampling {
     Count(usize),
     Refused(Refusal),

@@ -16,14 +16,14 @@ use shape::refusal::{Check, Refusal, or_else, oversize_if};
 use vector::coords::Vector;
 
 // What the indexed lookup tells of the triangle besides document 01's three values.
-#[derive(Drop)]
+#[derive(Clone, Copy)]
 pub struct Detail {
     pub lane: Lane,
 }
 
 // What the indexed lookup answers: height, normal, triangle and the rest, or none, or why the call is
 // turned back.
-#[derive(Drop)]
+#[derive(Clone, Copy)]
 pub enum Sampled {
     Found(f32, Vector, usize, Detail),
     None,

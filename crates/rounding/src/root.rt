@@ -415,7 +415,7 @@ fn near_one(b: u64) -> f32
 }
 
 // Whether a number lies next to 1, and if so its root, else the number itself.
-#[derive(Drop)]
+#[derive(Clone, Copy)]
 pub struct Near {
     pub is: bool,
     pub root: f32,

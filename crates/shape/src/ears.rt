@@ -13,7 +13,7 @@ use rounding::bits::wide;
 use vector::coords::Point;
 
 // How many ears there are, or why the call is turned back.
-#[derive(Drop)]
+#[derive(Clone, Copy)]
 pub enum EarAnswer {
     Count(usize),
     Refused(Refusal),

@@ -46,7 +46,7 @@ use rounding::whole::{floor64, round64};
 
 // Where the grid lies: the reference line's start and heading, where along it the first row is, and how
 // far apart the points are.
-#[derive(Drop)]
+#[derive(Clone, Copy)]
 pub struct ElevationGrid {
     pub origin_x: f64,
     pub origin_y: f64,
@@ -57,7 +57,7 @@ pub struct ElevationGrid {
 }
 
 // The answer to a question for a height.
-#[derive(Drop)]
+#[derive(Clone, Copy)]
 pub enum Elevation {
     Height(f64),
     None,
@@ -65,21 +65,21 @@ pub enum Elevation {
 }
 
 // A height that may be missing.
-#[derive(Drop)]
+#[derive(Clone, Copy)]
 pub enum Spot {
     Missing,
     At(f64),
 }
 
 // The part of a list from start to end.
-#[derive(Drop)]
+#[derive(Clone, Copy)]
 pub struct Run {
     pub start: usize,
     pub end: usize,
 }
 
 // A row of the grid: its height on the line, and its runs of the left and of the right heights.
-#[derive(Drop)]
+#[derive(Clone, Copy)]
 pub struct GridRow {
     pub center: f64,
     pub left: Run,
@@ -87,7 +87,7 @@ pub struct GridRow {
 }
 
 // Four points of a row one after another, the middle two at a square's edge.
-#[derive(Drop)]
+#[derive(Clone, Copy)]
 pub struct Line {
     pub before: Spot,
     pub first: Spot,
@@ -96,14 +96,14 @@ pub struct Line {
 }
 
 // The slopes at the two ends of an edge.
-#[derive(Drop)]
+#[derive(Clone, Copy)]
 pub struct Tilt {
     pub first: f64,
     pub second: f64,
 }
 
 // The slopes across a row that may lack the edge's ends.
-#[derive(Drop)]
+#[derive(Clone, Copy)]
 pub enum Across {
     Bare,
     Both(Tilt),
@@ -111,20 +111,20 @@ pub enum Across {
 
 // Sixteen numbers of a square, in rows of four: its corners, slopes and twists, or the coefficients of
 // the bicubic surface.
-#[derive(Drop)]
+#[derive(Clone, Copy)]
 pub struct Patch {
     pub m: [f64; 16],
 }
 
 // A grid coordinate: the square it falls into, and where in it.
-#[derive(Drop)]
+#[derive(Clone, Copy)]
 pub struct Place {
     pub line: usize,
     pub part: f64,
 }
 
 // A place along the reference line and to its left.
-#[derive(Drop)]
+#[derive(Clone, Copy)]
 pub struct Station {
     pub s: f64,
     pub t: f64,
@@ -533,7 +533,7 @@ pub(crate) fn height_in(
 
 // What is found of a grid's lists: something past its limit, something ragged, or how many heights the
 // longest side of all rows has.
-#[derive(Drop)]
+#[derive(Clone, Copy)]
 pub enum GridCheck {
     Long,
     Ragged,
@@ -541,7 +541,7 @@ pub enum GridCheck {
 }
 
 // The longest side of some rows that are in order, if they are.
-#[derive(Drop)]
+#[derive(Clone, Copy)]
 pub enum Pass {
     Odd,
     Sound(usize),

@@ -47,21 +47,21 @@ use rounding::width::{narrow, widen};
 use vector::coords::{Point, Vector};
 
 // The grid of a junction, if it has one.
-#[derive(Drop)]
+#[derive(Clone, Copy)]
 pub enum JunctionGrid {
     Absent,
     Present(ElevationGrid),
 }
 
 // How many vertices there are, and as many normals and indices; or why the call is turned back.
-#[derive(Drop)]
+#[derive(Clone, Copy)]
 pub enum JunctionAnswer {
     Made(usize),
     Refused(Refusal),
 }
 
 // An ear's corners, and into how many parts each side is split.
-#[derive(Drop)]
+#[derive(Clone, Copy)]
 pub struct Ear {
     pub a: Point,
     pub b: Point,

@@ -52,7 +52,7 @@ use vector::coords::Point;
 
 // A ring that was made: how many points it has, how many segments were empty, the greatest gap, whether
 // that is at most 0.1, and whether the ring ran clockwise and was reversed.
-#[derive(Drop)]
+#[derive(Clone, Copy)]
 pub struct Outline {
     pub count: usize,
     pub dropped: usize,
@@ -61,28 +61,28 @@ pub struct Outline {
     pub turned: bool,
 }
 
-#[derive(Drop)]
+#[derive(Clone, Copy)]
 pub enum OutlineAnswer {
     Made(Outline),
     Refused(Refusal),
 }
 
 // The ring so far: how many points it has, and the last of them.
-#[derive(Drop)]
+#[derive(Clone, Copy)]
 struct RingSoFar {
     count: usize,
     last: Point,
 }
 
 // The greatest gap so far, and a sum of squares whose root it is not below.
-#[derive(Drop)]
+#[derive(Clone, Copy)]
 struct Gap {
     root: f32,
     squares: f64,
 }
 
 // The ring so far, with how many segments it is made of and the greatest gap between them.
-#[derive(Drop)]
+#[derive(Clone, Copy)]
 struct Joined {
     ring: RingSoFar,
     segments: usize,
@@ -90,7 +90,7 @@ struct Joined {
 }
 
 // How a segment is joined on: from its end or not, and the greatest gap with it.
-#[derive(Drop)]
+#[derive(Clone, Copy)]
 struct Turn {
     back: bool,
     gap: Gap,

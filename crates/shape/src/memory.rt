@@ -9,7 +9,7 @@ use crate::lists::{MAX_INDICES, MAX_SPANS, MAX_VERTICES, SPAN_WORDS};
 use crate::refusal::{Check, oversize_if, short_if};
 
 // How long the lists of a mesh are, in their elements.
-#[derive(Drop)]
+#[derive(Clone, Copy)]
 pub(crate) struct Lengths {
     pub vertices: usize,
     pub normals: usize,

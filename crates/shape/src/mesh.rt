@@ -216,7 +216,7 @@ fn put_lanes(
 // ---- the call
 
 // What was made: vertices and normals in points, indices in numbers, spans in spans.
-#[derive(Drop)]
+#[derive(Clone, Copy)]
 pub struct MeshCounts {
     pub vertices: usize,
     pub normals: usize,
@@ -224,7 +224,7 @@ pub struct MeshCounts {
     pub spans: usize,
 }
 
-#[derive(Drop)]
+#[derive(Clone, Copy)]
 pub enum MeshAnswer {
     Made(MeshCounts),
     Refused(Refusal),

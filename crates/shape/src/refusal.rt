@@ -2,7 +2,7 @@
 ghost use Rattle.std.specs.Prelude.{◌≡◌, ◌<◌};
 ghost use Rattle.shape.specs.Refusal.{number_of, place_of, found, refuse, or_else};
 
-#[derive(Drop)]
+#[derive(Clone, Copy)]
 pub enum Refusal {
     // The limit that a list or a result is past.
     Oversize(usize),
@@ -17,14 +17,14 @@ pub enum Refusal {
 }
 
 // What a check finds.
-#[derive(Drop)]
+#[derive(Clone, Copy)]
 pub enum Check {
     Fine,
     Faulty(Refusal),
 }
 
 // A refusal as the caller is told it: its number in document 01's table, and the place that it names.
-#[derive(Drop)]
+#[derive(Clone, Copy)]
 pub struct Reason {
     pub number: u32,
     pub place: usize,

@@ -15,21 +15,21 @@ use vector::coords::{Point, Vector};
 use vector::geometry::{horizontal, left_normal};
 
 // From one kept point to the next: the direction on the ground, and the square of the length.
-#[derive(Drop)]
+#[derive(Clone, Copy)]
 pub(crate) struct Leg {
     pub way: Vector,
     pub square: f32,
 }
 
 // How far the two vertices of a rib lie from the kept point.
-#[derive(Drop)]
+#[derive(Clone, Copy)]
 struct Spread {
     left: f32,
     right: f32,
 }
 
 // Two vertices across a lane, and the normal of both.
-#[derive(Drop)]
+#[derive(Clone, Copy)]
 pub(crate) struct Rib {
     pub left: Point,
     pub right: Point,
@@ -37,7 +37,7 @@ pub(crate) struct Rib {
 }
 
 // A rib, and the leg out of its point, which is the leg into the next.
-#[derive(Drop)]
+#[derive(Clone, Copy)]
 pub(crate) struct Walk {
     pub rib: Rib,
     pub out: Leg,

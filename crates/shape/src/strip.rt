@@ -111,7 +111,7 @@ fn count_indices(
 }
 
 // Where the next lane goes: in vertices and in normals, in indices, in spans.
-#[derive(Drop)]
+#[derive(Clone, Copy)]
 pub(crate) struct At {
     pub floats: usize,
     pub index: usize,

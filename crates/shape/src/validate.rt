@@ -12,7 +12,7 @@ use rounding::bits::wide;
 use rounding::extremes::is_finite32;
 
 // What `validate` answers, with the counts of the finding.
-#[derive(Drop)]
+#[derive(Clone, Copy)]
 pub enum Verdict {
     Sound,
     // No triangles at all.
@@ -27,7 +27,7 @@ pub enum Verdict {
 }
 
 // What is found of one triangle.
-#[derive(Drop)]
+#[derive(Clone, Copy)]
 enum Finding {
     Fine,
     Past(usize),

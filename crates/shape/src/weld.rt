@@ -21,7 +21,7 @@ use rounding::root::sqrt32;
 
 // How far a lane is welded: how many points are kept but for the last, the last, and the square of the
 // step to it.
-#[derive(Drop)]
+#[derive(Clone, Copy)]
 struct Welding {
     count: usize,
     last: usize,

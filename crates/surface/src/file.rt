@@ -31,21 +31,21 @@ ghost use Rattle.surface.specs.FileSteps.{sound_kind, count_in, whole_in, record
 use shape::refusal::{Check, Refusal};
 
 // How many elements were copied, or why the call is turned back.
-#[derive(Drop)]
+#[derive(Clone, Copy)]
 pub enum Copied {
     Count(usize),
     Refused(Refusal),
 }
 
 // The form that a surface is in: the bytes of a file, or words as they are held.
-#[derive(Drop)]
+#[derive(Clone, Copy)]
 enum Form {
     File,
     Held,
 }
 
 // The eight words of a record.
-#[derive(Drop)]
+#[derive(Clone, Copy)]
 struct Record {
     words: [u32; 8],
 }

@@ -21,7 +21,7 @@ const LANE: usize = 4;
 const POINT: usize = 1;
 
 // How many records of each kind there are.
-#[derive(Drop)]
+#[derive(Clone, Copy)]
 pub struct Sizes {
     pub vertices: usize,
     pub triangles: usize,
@@ -29,7 +29,7 @@ pub struct Sizes {
 }
 
 // Where a question asks.
-#[derive(Drop)]
+#[derive(Clone, Copy)]
 pub struct Question {
     pub x: f32,
     pub y: f32,

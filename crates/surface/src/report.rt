@@ -47,7 +47,7 @@ fn tell_refusal(r: Refusal, text: &mut [u8]) -> Copied
 // ---- the line of a question
 
 // What it tells: height, normal, triangle and the lane's id, or that there is none.
-#[derive(Drop)]
+#[derive(Clone, Copy)]
 enum Line {
     Found(f32, Vector, usize, usize),
     None,
@@ -90,7 +90,7 @@ fn put_line(out: &mut [u8], at: usize, k: usize, line: Line) -> usize
 // ---- all lines
 
 // How long lines are together, and how many of them tell an answer.
-#[derive(Drop)]
+#[derive(Clone, Copy)]
 struct LineTotals {
     size: usize,
     found: usize,

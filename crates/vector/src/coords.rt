@@ -30,7 +30,7 @@ use rounding::extremes::is_finite32;
 use rounding::root::{root_near_one, sqrt32};
 
 // A place in the world: right-handed, z up, metres.
-#[derive(Drop)]
+#[derive(Clone, Copy)]
 pub struct Point {
     pub x: f32,
     pub y: f32,
@@ -38,7 +38,7 @@ pub struct Point {
 }
 
 // A displacement between places, or a direction.
-#[derive(Drop)]
+#[derive(Clone, Copy)]
 pub struct Vector {
     pub x: f32,
     pub y: f32,
