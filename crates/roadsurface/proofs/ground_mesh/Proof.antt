@@ -7,43 +7,43 @@ use Rattle.roadsurface.proofs.ground_mesh.Tie as tie
 mesh-requires : tie.Need-mesh-requires
 mesh-requires c κs = search rules
 
-same_length : tie.Need-same-length
+same_length : tie.Need-shape_of-vertices-then-there
 same_length c = search rules
 
-same-length-2 : tie.Need-same-length-2
+same-length-2 : tie.Need-shape_of-normals-then-there
 same-length-2 c = search rules
 
-same-length-3 : tie.Need-same-length-3
+same-length-3 : tie.Need-shape_of-indices-then-there
 same-length-3 c = search rules
 
-returns : tie.Need-returns
+returns : tie.Need-returns-then-there
 unfolding grid_if
 returns c =
-    let d = c.before.before.before.before.before.before in
-    let at_if1 = d.before.before.before.before in
-    rw at_if1.if1.true d.mesh.ensures
+    let d = c in
+    let at_if1 = d in
+    rw at_if1.if-there.true d.mesh.ensures
 
 mesh-requires-2 : tie.Need-mesh-requires-2
 mesh-requires-2 c κs = search rules
 
-same-length-4 : tie.Need-same-length-4
+same-length-4 : tie.Need-shape_of-vertices
 same-length-4 c = search rules
 
-same-length-5 : tie.Need-same-length-5
+same-length-5 : tie.Need-shape_of-normals
 same-length-5 c = search rules
 
-same-length-6 : tie.Need-same-length-6
+same-length-6 : tie.Need-shape_of-indices
 same-length-6 c = search rules
 
-returns-2 : tie.Need-returns-2
+returns-2 : tie.Need-returns
 unfolding grid_if
 returns-2 c =
-    let d = c.before.before.before.before.before.before in
-    let at_if1 = d.before.before.before.before in
-    rw at_if1.if1.false d.mesh2.ensures
+    let d = c in
+    let at_if1 = d in
+    rw at_if1.if-there.false d.mesh-2.ensures
 
-pub ground-mesh-spec : {M : Type 1} → statement M
-ground-mesh-spec =
+pub ground_mesh_spec : {M : Type 1} → statement M
+ground_mesh_spec =
     tie.close
     (tie.spec
     mesh-requires

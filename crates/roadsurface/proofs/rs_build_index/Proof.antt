@@ -4,17 +4,17 @@ use borrow.Author.Rules.{rules}
 use Rattle.roadsurface.proofs.rs_build_index.Statement.{statement}
 use Rattle.roadsurface.proofs.rs_build_index.Tie as tie
 
-build-requires : tie.Need-build-requires
+build-requires : tie.Need-build-a-requires
 build-requires = search rules
 
-tell-built-requires : tie.Need-tell-built-requires
+tell-built-requires : tie.Need-tell_built-requires
 tell-built-requires = search rules
 
-same_length : tie.Need-same-length
+same_length : tie.Need-shape_of-index
 same_length = search rules
 
 returns : tie.Need-returns
 returns c = (search code_of_lem, search)
 
-pub rs-build-index-spec : {M : Type 1} → statement M
-rs-build-index-spec = tie.close (search (tie.spec, build-requires, tell-built-requires, same_length, returns))
+pub rs_build_index_spec : {M : Type 1} → statement M
+rs_build_index_spec = tie.close (search (tie.spec, build-requires, tell-built-requires, same_length, returns))

@@ -4,14 +4,14 @@ use borrow.Author.Rules.{rules}
 use Rattle.roadsurface.proofs.rs_elevation_height_at.Statement.{statement}
 use Rattle.roadsurface.proofs.rs_elevation_height_at.Tie as tie
 
-height-at-requires : tie.Need-height-at-requires
+height-at-requires : tie.Need-height_at-under-requires
 height-at-requires = search rules
 
-tell-elevation-requires : tie.Need-tell-elevation-requires
+tell-elevation-requires : tie.Need-tell_elevation-requires
 tell-elevation-requires = search rules
 
 returns : tie.Need-returns
 returns c = (search code_of_lem, search left_of)
 
-pub rs-elevation-height-at-spec : {M : Type 1} → statement M
-rs-elevation-height-at-spec = tie.close (search (tie.spec, height-at-requires, tell-elevation-requires, returns))
+pub rs_elevation_height_at_spec : {M : Type 1} → statement M
+rs_elevation_height_at_spec = tie.close (search (tie.spec, height-at-requires, tell-elevation-requires, returns))

@@ -4,17 +4,17 @@ use borrow.Author.Rules.{rules}
 use Rattle.roadsurface.proofs.rs_height_at.Statement.{statement}
 use Rattle.roadsurface.proofs.rs_height_at.Tie as tie
 
-height-record-requires : tie.Need-height-record-requires
+height-record-requires : tie.Need-height_record-plain-requires
 height-record-requires = search rules
 
-tell-sampling-requires : tie.Need-tell-sampling-requires
+tell-sampling-requires : tie.Need-tell_sampling-requires
 tell-sampling-requires = search rules
 
-same_length : tie.Need-same-length
+same_length : tie.Need-shape_of-words
 same_length = search rules
 
 returns : tie.Need-returns
 returns c = (search code_of_lem, search)
 
-pub rs-height-at-spec : {M : Type 1} → statement M
-rs-height-at-spec = tie.close (search (tie.spec, height-record-requires, tell-sampling-requires, same_length, returns))
+pub rs_height_at_spec : {M : Type 1} → statement M
+rs_height_at_spec = tie.close (search (tie.spec, height-record-requires, tell-sampling-requires, same_length, returns))

@@ -4,23 +4,23 @@ use borrow.Author.Rules.{rules}
 use Rattle.roadsurface.proofs.rs_junction_mesh.Statement.{statement}
 use Rattle.roadsurface.proofs.rs_junction_mesh.Tie as tie
 
-ground-mesh-requires : tie.Need-ground-mesh-requires
+ground-mesh-requires : tie.Need-ground_mesh-a-requires
 ground-mesh-requires = search rules
 
-tell-junction-requires : tie.Need-tell-junction-requires
+tell-junction-requires : tie.Need-tell_junction-requires
 tell-junction-requires = search rules
 
-same_length : tie.Need-same-length
+same_length : tie.Need-shape_of-vertices
 same_length = search rules
 
-same-length-2 : tie.Need-same-length-2
+same-length-2 : tie.Need-shape_of-normals
 same-length-2 = search rules
 
-same-length-3 : tie.Need-same-length-3
+same-length-3 : tie.Need-shape_of-indices
 same-length-3 = search rules
 
 returns : tie.Need-returns
 returns c = (search code_of_lem, search)
 
-pub rs-junction-mesh-spec : {M : Type 1} → statement M
-rs-junction-mesh-spec = tie.close (search (tie.spec, ground-mesh-requires, tell-junction-requires, same_length, same-length-2, same-length-3, returns))
+pub rs_junction_mesh_spec : {M : Type 1} → statement M
+rs_junction_mesh_spec = tie.close (search (tie.spec, ground-mesh-requires, tell-junction-requires, same_length, same-length-2, same-length-3, returns))

@@ -4,17 +4,17 @@ use borrow.Author.Rules.{rules}
 use Rattle.roadsurface.proofs.rs_surface_read.Statement.{statement}
 use Rattle.roadsurface.proofs.rs_surface_read.Tie as tie
 
-read-requires : tie.Need-read-requires
+read-requires : tie.Need-read-copied-requires
 read-requires = search rules
 
-tell-copied-requires : tie.Need-tell-copied-requires
+tell-copied-requires : tie.Need-tell_copied-requires
 tell-copied-requires = search rules
 
-same_length : tie.Need-same-length
+same_length : tie.Need-shape_of-held
 same_length = search rules
 
 returns : tie.Need-returns
 returns c = (search code_of_lem, search)
 
-pub rs-surface-read-spec : {M : Type 1} → statement M
-rs-surface-read-spec = tie.close (search (tie.spec, read-requires, tell-copied-requires, same_length, returns))
+pub rs_surface_read_spec : {M : Type 1} → statement M
+rs_surface_read_spec = tie.close (search (tie.spec, read-requires, tell-copied-requires, same_length, returns))

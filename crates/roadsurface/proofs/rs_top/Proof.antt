@@ -4,17 +4,17 @@ use borrow.Author.Rules.{rules}
 use Rattle.roadsurface.proofs.rs_top.Statement.{statement}
 use Rattle.roadsurface.proofs.rs_top.Tie as tie
 
-top-record-requires : tie.Need-top-record-requires
+top-record-requires : tie.Need-top_record-one-requires
 top-record-requires = search rules
 
-tell-sampling-requires : tie.Need-tell-sampling-requires
+tell-sampling-requires : tie.Need-tell_sampling-requires
 tell-sampling-requires = search rules
 
-same_length : tie.Need-same-length
+same_length : tie.Need-shape_of-words
 same_length = search rules
 
 returns : tie.Need-returns
 returns c = (search code_of_lem, search)
 
-pub rs-top-spec : {M : Type 1} → statement M
-rs-top-spec = tie.close (search (tie.spec, top-record-requires, tell-sampling-requires, same_length, returns))
+pub rs_top_spec : {M : Type 1} → statement M
+rs_top_spec = tie.close (search (tie.spec, top-record-requires, tell-sampling-requires, same_length, returns))

@@ -9,5 +9,5 @@ returns : tie.Need-returns
 unfolding grown_of slack_of of_bits
 returns c = refl
 
-pub grown-spec : {M : Type 1} → statement M
-grown-spec = tie.close (tie.spec returns)
+pub grown_spec : {M : Type 1} → statement M
+grown_spec = tie.close (tie.spec returns)

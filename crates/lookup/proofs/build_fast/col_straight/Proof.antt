@@ -6,14 +6,14 @@ use Rattle.lookup.specs.Laws.Column.{bucket_cut}
 use Rattle.lookup.proofs.build_fast.col_straight.Statement.{statement}
 use Rattle.lookup.proofs.build_fast.col_straight.Tie as tie
 
-cut-straight-requires : tie.Need-cut-straight-requires
+cut-straight-requires : tie.Need-cut_straight-requires
 cut-straight-requires c κs = search rules
 
 returns : tie.Need-returns
 unfolding col
 returns c =
-    let a = c.before.args in
-    c.cut-straight.ensures ∙ sym (bucket_cut binary32 (sub binary32 a.x a.m) a.cell a.count)
+    let a = c.args in
+    c.cut_straight.ensures ∙ sym (bucket_cut binary32 (sub binary32 a.x a.m) a.cell a.count)
 
-pub col-straight-spec : {M : Type 1} → statement M
-col-straight-spec = tie.close (tie.spec cut-straight-requires returns)
+pub col_straight_spec : {M : Type 1} → statement M
+col_straight_spec = tie.close (tie.spec cut-straight-requires returns)

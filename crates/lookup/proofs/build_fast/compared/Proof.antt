@@ -30,16 +30,16 @@ upper-requires-4 c κs = search rules
 
 returns : tie.Need-returns
 returns c p q =
-    let low_y = c.before.before in
-    let high_x = low_y.before.before in
-    let low_x = high_x.before.before in
-    let s = low_x.before.before in
-    compares s.args.a s.args.b s.args.c _ _ _ _ _ _ _ _ low_x.before.lower.ensures low_x.lower2.ensures
-    low_y.before.lower3.ensures low_y.lower4.ensures high_x.before.upper.ensures high_x.upper2.ensures
-    c.before.upper3.ensures c.upper4.ensures p q
+    let low_y = c in
+    let high_x = low_y in
+    let low_x = high_x in
+    let s = low_x in
+    compares s.args.a s.args.b s.args.c _ _ _ _ _ _ _ _ low_x.lower.ensures low_x.lower-2.ensures
+    low_y.lower-3.ensures low_y.lower-4.ensures high_x.upper.ensures high_x.upper-2.ensures
+    c.upper-3.ensures c.upper-4.ensures p q
 
-pub compared-spec : {M : Type 1} → statement M
-compared-spec =
+pub compared_spec : {M : Type 1} → statement M
+compared_spec =
     tie.close
     (tie.spec
     lower-requires

@@ -10,8 +10,8 @@ cut-requires c κs = search rules
 
 returns : tie.Need-returns
 returns c =
-    let a = c.before.args in
+    let a = c.args in
     c.cut.ensures ∙ sym (bucket_cut binary32 a.offset a.cell a.count)
 
-pub bucket-spec : {M : Type 1} → statement M
-bucket-spec = tie.close (tie.spec cut-requires returns)
+pub bucket_spec : {M : Type 1} → statement M
+bucket_spec = tie.close (tie.spec cut-requires returns)

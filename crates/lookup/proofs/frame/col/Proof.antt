@@ -11,5 +11,5 @@ returns : tie.Need-returns
 unfolding col
 returns c = c.bucket.ensures
 
-pub col-spec : {M : Type 1} → statement M
-col-spec = tie.close (tie.spec bucket-requires returns)
+pub col_spec : {M : Type 1} → statement M
+col_spec = tie.close (tie.spec bucket-requires returns)

@@ -4,19 +4,19 @@ use Rattle.std.proofs.Common.{rules}
 use Rattle.lookup.proofs.lane.lane_there.Statement.{statement}
 use Rattle.lookup.proofs.lane.lane_there.Tie as tie
 
-enum-known-l : tie.Need-enum-known-l
+enum-known-l : tie.Need-enum_known-l
 enum-known-l c = search rules
 
-enum_told : tie.Need-enum-told
+enum_told : tie.Need-enum_told-1
 enum_told c = search rules
 
-returns : tie.Need-returns
+returns : tie.Need-returns-in-Id
 unfolding lane_there
-returns c = rw c.before.l.given.1
+returns c = rw c.in-Id.is
 
-returns-2 : tie.Need-returns-2
+returns-2 : tie.Need-returns-in-None
 unfolding lane_there
-returns-2 c = rw c.enum_told.given.1
+returns-2 c = rw c.in-None.is
 
-pub lane-there-spec : {M : Type 1} → statement M
-lane-there-spec = tie.close (tie.spec enum-known-l enum_told returns returns-2)
+pub lane_there_spec : {M : Type 1} → statement M
+lane_there_spec = tie.close (tie.spec enum-known-l enum_told returns returns-2)

@@ -5,78 +5,78 @@ use Rattle.lookup.proofs.Search.{whole, ended, one_left, ten}
 use Rattle.lookup.proofs.lane.span_past.Statement.{statement}
 use Rattle.lookup.proofs.lane.span_past.Tie as tie
 
-abbrev S : tie.After-half-of10 → tie.Start
+abbrev S : tie.After-half_of-e → tie.Start
 S c =
     let at_half_of5 = c.before.before.before.before.before in
     at_half_of5.before.before.before.before.before.before
 
-few : (c : tie.After-half-of10) → c.half-of10.result.size ≤ 1
+few : (c : tie.After-half_of-e) → c.half_of-e.result.size ≤ 1
 few c =
-    let at_half_of7 = c.before.before.before in
-    let at_half_of4 = at_half_of7.before.before.before in
-    let at_half_of = at_half_of4.before.before.before in
-    ten (omega (arith, (S c).requires.0)) at_half_of.half_of_lem.ensures.1 at_half_of4.before.before.half-of2.ensures.1
-    at_half_of4.before.half-of3.ensures.1 at_half_of4.half-of4.ensures.1 at_half_of7.before.before.half-of5.ensures.1
-    at_half_of7.before.half-of6.ensures.1 at_half_of7.half-of7.ensures.1 c.before.before.half-of8.ensures.1
-    c.before.half-of9.ensures.1 c.half-of10.ensures.1
+    let at_half_of7 = c in
+    let at_half_of4 = at_half_of7 in
+    let at_half_of = at_half_of4 in
+    ten (omega (arith, (S c).requires.0)) at_half_of.half_of.ensures.1 at_half_of4.half_of-a.ensures.1
+    at_half_of4.half_of-2.ensures.1 at_half_of4.half_of-b.ensures.1 at_half_of7.half_of-3.ensures.1
+    at_half_of7.half_of-c.ensures.1 at_half_of7.half_of-4.ensures.1 c.half_of-d.ensures.1
+    c.half_of-5.ensures.1 c.half_of-e.ensures.1
 
-half-of-requires : tie.Need-half-of-requires
-half-of-requires c κs = (c.before.requires.0, (c.before.requires.1, whole _ _ _))
+half-of-requires : tie.Need-half_of-requires
+half-of-requires c κs = (c.requires.0, (c.requires.1, whole _ _ _))
 
-half-of-requires-2 : tie.Need-half-of-requires-2
-half-of-requires-2 c κs = (c.before.before.requires.0, (c.before.before.requires.1, c.half_of_lem.ensures.0))
+half-of-requires-2 : tie.Need-half_of-a-requires
+half-of-requires-2 c κs = (c.requires.0, (c.requires.1, c.half_of.ensures.0))
 
-half-of-requires-3 : tie.Need-half-of-requires-3
-half-of-requires-3 c κs = (c.before.before.before.requires.0, (c.before.before.before.requires.1, c.half-of2.ensures.0))
+half-of-requires-3 : tie.Need-half_of-requires-2
+half-of-requires-3 c κs = (c.requires.0, (c.requires.1, c.half_of-a.ensures.0))
 
-half-of-requires-4 : tie.Need-half-of-requires-4
-half-of-requires-4 c κs = (c.before.before.before.before.requires.0, (c.before.before.before.before.requires.1, c.half-of3.ensures.0))
+half-of-requires-4 : tie.Need-half_of-b-requires
+half-of-requires-4 c κs = (c.requires.0, (c.requires.1, c.half_of-2.ensures.0))
 
-half-of-requires-5 : tie.Need-half-of-requires-5
+half-of-requires-5 : tie.Need-half_of-requires-3
 half-of-requires-5 c κs =
-    let start = c.before.before.before.before.before in
-    (start.requires.0, (start.requires.1, c.half-of4.ensures.0))
+    let start = c in
+    (start.requires.0, (start.requires.1, c.half_of-b.ensures.0))
 
-half-of-requires-6 : tie.Need-half-of-requires-6
+half-of-requires-6 : tie.Need-half_of-c-requires
 half-of-requires-6 c κs =
-    let start = c.before.before.before.before.before.before in
-    (start.requires.0, (start.requires.1, c.half-of5.ensures.0))
+    let start = c in
+    (start.requires.0, (start.requires.1, c.half_of-3.ensures.0))
 
-half-of-requires-7 : tie.Need-half-of-requires-7
+half-of-requires-7 : tie.Need-half_of-requires-4
 half-of-requires-7 c κs =
-    let start = c.before.before.before.before.before.before.before in
-    (start.requires.0, (start.requires.1, c.half-of6.ensures.0))
+    let start = c in
+    (start.requires.0, (start.requires.1, c.half_of-c.ensures.0))
 
-half-of-requires-8 : tie.Need-half-of-requires-8
+half-of-requires-8 : tie.Need-half_of-d-requires
 half-of-requires-8 c κs =
-    let start = c.before.before.before.before.before.before.before.before in
-    (start.requires.0, (start.requires.1, c.half-of7.ensures.0))
+    let start = c in
+    (start.requires.0, (start.requires.1, c.half_of-4.ensures.0))
 
-half-of-requires-9 : tie.Need-half-of-requires-9
+half-of-requires-9 : tie.Need-half_of-requires-5
 half-of-requires-9 c κs =
-    let start = c.before.before.before.before.before.before.before.before.before in
-    (start.requires.0, (start.requires.1, c.half-of8.ensures.0))
+    let start = c in
+    (start.requires.0, (start.requires.1, c.half_of-d.ensures.0))
 
-half-of-requires-10 : tie.Need-half-of-requires-10
+half-of-requires-10 : tie.Need-half_of-e-requires
 half-of-requires-10 c κs =
-    let at_half_of4 = c.before.before.before.before.before in
-    let start = at_half_of4.before.before.before.before.before in
-    (start.requires.0, (start.requires.1, c.half-of9.ensures.0))
+    let at_half_of4 = c in
+    let start = at_half_of4 in
+    (start.requires.0, (start.requires.1, c.half_of-5.ensures.0))
 
-returns : tie.Need-returns
-returns c = ended _ _ _ _ _ c.before.before.half-of10.ensures.0 (omega arith)
+returns : tie.Need-returns-then-e-lt1
+returns c = ended _ _ _ _ _ c.half_of-e.ensures.0 (omega arith)
 
-mul_wide : tie.Need-overflow-mul-wide
-mul_wide c = omega (arith, (S c.before.before.before).requires.0, c.before.before.before.half-of10.ensures.0.within)
+mul_wide : tie.Need-overflow_mul-e
+mul_wide c = omega (arith, (S c.before.before.before).requires.0, c.half_of-e.ensures.0.within)
 
-add_wide : tie.Need-overflow-add-wide
-add_wide c = omega (arith, (S c.before.before.before).requires.0, c.before.before.before.half-of10.ensures.0.within)
+add_wide : tie.Need-overflow_add-e
+add_wide c = omega (arith, (S c.before.before.before).requires.0, c.half_of-e.ensures.0.within)
 
-mul-wide-2 : tie.Need-overflow-mul-wide-2
-mul-wide-2 c = omega (arith, (S c.before.before.before).requires.0, c.before.before.before.half-of10.ensures.0.within)
+mul-wide-2 : tie.Need-offset_bounds-spans-e
+mul-wide-2 c = omega (arith, (S c.before.before.before).requires.0, c.half_of-e.ensures.0.within)
 
-shared-slice-read-wide : tie.Need-shared-slice-read-wide
-shared-slice-read-wide c = omega (arith, (S c.before.before.before.before).requires.0, c.before.before.before.before.half-of10.ensures.0.within)
+shared-slice-read-wide : tie.Need-bounds-spans-e
+shared-slice-read-wide c = omega (arith, (S c.before.before.before.before).requires.0, c.half_of-e.ensures.0.within)
 
 wide-requires : tie.Need-wide-requires
 wide-requires c κs = search rules
@@ -84,21 +84,21 @@ wide-requires c κs = search rules
 moved-requires : tie.Need-moved-requires
 moved-requires c κs =
     let at_half_of10 = c.before.before.before.before.before in
-    (omega (arith, (S at_half_of10).requires.0, at_half_of10.half-of10.ensures.0.within), omega arith)
+    (omega (arith, (S at_half_of10).requires.0, at_half_of10.half_of-e.ensures.0.within), omega arith)
 
-returns-2 : tie.Need-returns-2
+returns-2 : tie.Need-returns
 unfolding word_of
 returns-2 c =
-    let at_if1 = c.before.before.before.before in
-    let at_half_of10 = at_if1.before.before in
+    let at_if1 = c in
+    let at_half_of10 = at_if1.before.before.before.before.before.before in
     let s = S at_half_of10 in
-    let p = at_half_of10.half-of10 in
+    let p = at_half_of10.half_of-e in
     let f = few at_half_of10 in
-    one_left s.args.spans.now s.args.i _ p.result.low p.result.size c.before.wide.result c.moved.result s.pre.1
-    p.ensures.0 (omega (arith, f, at_if1.if1.false)) c.before.wide.ensures c.moved.ensures
+    one_left s.args.spans.now s.args.i _ p.result.low p.result.size c.wide.result c.moved.result s.requires.1
+    p.ensures.0 (omega (arith, f, at_if1.if-e-lt1.false)) c.wide.ensures c.moved.ensures
 
-pub span-past-spec : {M : Type 1} → statement M
-span-past-spec =
+pub span_past_spec : {M : Type 1} → statement M
+span_past_spec =
     tie.close
     (tie.spec
     half-of-requires

@@ -32,83 +32,83 @@ module _ (vs : List Float) (is : List ℕ) (t : ℕ) where
         unfolding corners_of present
         all r = rw (add-zero, ← ea, ← eb, ← ec, lt-ltb _ _ ht, lt-ltb _ _ p, lt-ltb _ _ q, lt-ltb _ _ r)
 
-mul_at : tie.Need-overflow-mul-at
+mul_at : tie.Need-overflow_mul-at
 mul_at c = search rules
 
-mul_wide : tie.Need-overflow-mul-wide
+mul_wide : tie.Need-offset_bounds-indices-at
 mul_wide c = search rules
 
-shared-slice-read-wide : tie.Need-shared-slice-read-wide
+shared-slice-read-wide : tie.Need-bounds-indices-at
 shared-slice-read-wide c = search rules
 
-wide-requires : tie.Need-wide-requires
+wide-requires : tie.Need-wide-ia-requires
 wide-requires c κs = search rules
 
-add_wide : tie.Need-overflow-add-wide
+add_wide : tie.Need-overflow_add-at
 add_wide c = search rules
 
-mul-wide-2 : tie.Need-overflow-mul-wide-2
+mul-wide-2 : tie.Need-offset_bounds-indices-at-then-ia-n
 mul-wide-2 c = search rules
 
-shared-slice-read-wide-2 : tie.Need-shared-slice-read-wide-2
+shared-slice-read-wide-2 : tie.Need-bounds-indices-at-then-ia-n
 shared-slice-read-wide-2 c = search rules
 
-wide-requires-2 : tie.Need-wide-requires-2
+wide-requires-2 : tie.Need-wide-ib-requires
 wide-requires-2 c κs = search rules
 
-add-wide-2 : tie.Need-overflow-add-wide-2
+add-wide-2 : tie.Need-overflow_add-at-then-ib-n
 add-wide-2 c = search rules
 
-mul-wide-3 : tie.Need-overflow-mul-wide-3
+mul-wide-3 : tie.Need-offset_bounds-indices-at-then-ib-n
 mul-wide-3 c = search rules
 
-shared-slice-read-wide-3 : tie.Need-shared-slice-read-wide-3
+shared-slice-read-wide-3 : tie.Need-bounds-indices-at-then-ib-n
 shared-slice-read-wide-3 c = search rules
 
-wide-requires-3 : tie.Need-wide-requires-3
+wide-requires-3 : tie.Need-wide-ic-requires
 wide-requires-3 c κs = search rules
 
-point-at-requires : tie.Need-point-at-requires
+point-at-requires : tie.Need-point_at-requires
 point-at-requires c κs = search rules
 
-point-at-requires-2 : tie.Need-point-at-requires-2
+point-at-requires-2 : tie.Need-point_at-requires-then-ic-n
 point-at-requires-2 c κs = search rules
 
-point-at-requires-3 : tie.Need-point-at-requires-3
+point-at-requires-3 : tie.Need-point_at-requires-then-ic-n-2
 point-at-requires-3 c κs = search rules
 
-returns : tie.Need-returns
+returns : tie.Need-returns-then-ic-n
 returns c =
-    let at_if4 = c.before.before.before in
-    let at_if3 = at_if4.before.before.before in
-    let at_if2 = at_if3.before.before.before in
-    let at_if1 = at_if2.before.before.before in
-    rw (c.before.before.point_at.ensures, c.before.point-at2.ensures, c.point-at3.ensures)
-    (all _ _ _ at_if1.if1.true _ at_if2.before.wide.ensures at_if2.if2.true _ at_if3.before.wide2.ensures
-    at_if3.if3.true _ at_if4.before.wide3.ensures at_if4.if4.true)
+    let at_if4 = c in
+    let at_if3 = at_if4 in
+    let at_if2 = at_if3 in
+    let at_if1 = at_if2 in
+    rw (c.point_at.ensures, c.point_at-then-ic-n.ensures, c.point_at-then-ic-n-2.ensures)
+    (all _ _ _ at_if1.if-t-indices.true _ at_if2.wide-ia.ensures at_if2.if-ia-n.true _ at_if3.wide-ib.ensures
+    at_if3.if-ib-n.true _ at_if4.wide-ic.ensures at_if4.if-ic-n.true)
 
-returns-2 : tie.Need-returns-2
+returns-2 : tie.Need-returns-else-ic-n
 returns-2 c =
-    let at_if3 = c.before.before.before in
-    let at_if2 = at_if3.before.before.before in
-    let at_if1 = at_if2.before.before.before in
-    no_c _ _ _ at_if1.if1.true _ at_if2.before.wide.ensures at_if2.if2.true _ at_if3.before.wide2.ensures
-    at_if3.if3.true _ c.before.wide3.ensures c.if4.false
+    let at_if3 = c in
+    let at_if2 = at_if3 in
+    let at_if1 = at_if2 in
+    no_c _ _ _ at_if1.if-t-indices.true _ at_if2.wide-ia.ensures at_if2.if-ia-n.true _ at_if3.wide-ib.ensures
+    at_if3.if-ib-n.true _ c.wide-ic.ensures c.if-ic-n.false
 
-returns-3 : tie.Need-returns-3
+returns-3 : tie.Need-returns-else-ib-n
 returns-3 c =
-    let at_if2 = c.before.before.before in
-    let at_if1 = at_if2.before.before.before in
-    no_b _ _ _ at_if1.if1.true _ at_if2.before.wide.ensures at_if2.if2.true _ c.before.wide2.ensures c.if3.false
+    let at_if2 = c in
+    let at_if1 = at_if2 in
+    no_b _ _ _ at_if1.if-t-indices.true _ at_if2.wide-ia.ensures at_if2.if-ia-n.true _ c.wide-ib.ensures c.if-ib-n.false
 
-returns-4 : tie.Need-returns-4
-returns-4 c = no_a _ _ _ c.before.before.before.if1.true _ c.before.wide.ensures c.if2.false
+returns-4 : tie.Need-returns-else-ia-n
+returns-4 c = no_a _ _ _ c.if-t-indices.true _ c.wide-ia.ensures c.if-ia-n.false
 
-returns-5 : tie.Need-returns-5
-returns-5 c = missing _ _ _ c.if1.false
+returns-5 : tie.Need-returns-else-t-indices
+returns-5 c = missing _ _ _ c.if-t-indices.false
 
-pub corners-spec : {M : Type 1} → statement M
-corners-spec =
+pub corners_spec : {M : Type 1} → statement M
+corners_spec =
     tie.close
     (tie.spec
     mul_at

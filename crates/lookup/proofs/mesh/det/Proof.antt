@@ -8,5 +8,5 @@ returns : tie.Need-returns
 unfolding det_of
 returns c = refl
 
-pub det-spec : {M : Type 1} → statement M
-det-spec = tie.close (tie.spec returns)
+pub det_spec : {M : Type 1} → statement M
+det_spec = tie.close (tie.spec returns)

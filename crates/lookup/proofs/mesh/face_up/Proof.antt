@@ -8,13 +8,13 @@ use Rattle.lookup.proofs.mesh.face_up.Tie as tie
 neg-requires : tie.Need-neg-requires
 neg-requires c κs = search rules
 
-returns : tie.Need-returns
+returns : tie.Need-returns-then-n
 unfolding face_up of_bits
-returns c = rw c.before.if1.true c.neg.ensures
+returns c = rw c.if-n.true c.neg.ensures
 
-returns-2 : tie.Need-returns-2
+returns-2 : tie.Need-returns
 unfolding face_up of_bits
-returns-2 c = rw c.if1.false
+returns-2 c = rw c.if-n.false
 
-pub face-up-spec : {M : Type 1} → statement M
-face-up-spec = tie.close (tie.spec neg-requires returns returns-2)
+pub face_up_spec : {M : Type 1} → statement M
+face_up_spec = tie.close (tie.spec neg-requires returns returns-2)

@@ -14,13 +14,13 @@ sub-requires-2 c κs = search rules
 cross-requires : tie.Need-cross-requires
 cross-requires c κs = search rules
 
-normalize-or-requires : tie.Need-normalize-or-requires
+normalize-or-requires : tie.Need-normalize_or-requires
 normalize-or-requires c κs = search rules
 
 returns : tie.Need-returns
 unfolding flat_of up_vector
-returns c = rw (c.normalize-or.ensures, c.before.cross.ensures, c.before.before.sub2.ensures, c.before.before.before.sub.ensures)
+returns c = rw (c.normalize_or.ensures, c.cross.ensures, c.sub-2.ensures, c.sub.ensures)
 
-pub flat-spec : {M : Type 1} → statement M
-flat-spec =
+pub flat_spec : {M : Type 1} → statement M
+flat_spec =
     tie.close (tie.spec sub-requires sub-requires-2 cross-requires normalize-or-requires returns)

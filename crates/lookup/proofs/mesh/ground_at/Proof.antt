@@ -5,33 +5,33 @@ use lib.Ieee.{of_bits}
 use Rattle.lookup.proofs.mesh.ground_at.Statement.{statement}
 use Rattle.lookup.proofs.mesh.ground_at.Tie as tie
 
-mul-t3 : tie.Need-overflow-mul-t3
+mul-t3 : tie.Need-overflow_mul-result
 mul-t3 c = search rules
 
-mul-t4 : tie.Need-overflow-mul-t4
+mul-t4 : tie.Need-offset_bounds-xs-k
 mul-t4 c = search rules
 
-shared-slice-read-t6 : tie.Need-shared-slice-read-t6
+shared-slice-read-t6 : tie.Need-bounds-xs-k
 shared-slice-read-t6 c = search rules
 
-mul-t7 : tie.Need-overflow-mul-t7
+mul-t7 : tie.Need-overflow_mul-result-2
 mul-t7 c = search rules
 
-add-t8 : tie.Need-overflow-add-t8
+add-t8 : tie.Need-overflow_add-result
 add-t8 c = search rules
 
-mul-t9 : tie.Need-overflow-mul-t9
+mul-t9 : tie.Need-offset_bounds-xs-k-2
 mul-t9 c = search rules
 
-shared-slice-read-t11 : tie.Need-shared-slice-read-t11
+shared-slice-read-t11 : tie.Need-bounds-xs-k-2
 shared-slice-read-t11 c = search rules
 
 returns : tie.Need-returns
 unfolding ground_at of_bits
 returns c = refl
 
-pub ground-at-spec : {M : Type 1} → statement M
-ground-at-spec =
+pub ground_at_spec : {M : Type 1} → statement M
+ground_at_spec =
     tie.close
     (tie.spec
     mul-t3

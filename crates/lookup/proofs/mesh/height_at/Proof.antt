@@ -29,45 +29,45 @@ module _ (m : Mesh) (x y : Float) {k : Check} (e : found k ≡ mesh_fault m) whe
     unfolding answer_of judge read_answer found plain_of lookup_of
     nothing w = rw (← e, f, ← g, w)
 
-mesh-fault-requires : tie.Need-mesh-fault-requires
+mesh-fault-requires : tie.Need-mesh_fault-requires
 mesh-fault-requires c κs = search rules
 
-enum-known-refusal : tie.Need-enum-known-refusal
+enum-known-refusal : tie.Need-enum_known-refusal
 enum-known-refusal c = search rules
 
-enum_told : tie.Need-enum-told
+enum_told : tie.Need-enum_told-1
 enum_told c = search rules
 
-highest-of-all-requires : tie.Need-highest-of-all-requires
+highest-of-all-requires : tie.Need-highest_of_all-requires
 highest-of-all-requires c κs = search rules
 
-enum-known-h : tie.Need-enum-known-h
+enum-known-h : tie.Need-enum_known-h
 enum-known-h c = search rules
 
-normal-of-requires : tie.Need-normal-of-requires
+normal-of-requires : tie.Need-normal_of-requires
 normal-of-requires c κs = search rules
 
-enum-told-2 : tie.Need-enum-told-2
+enum-told-2 : tie.Need-enum_told-in-Nothing
 enum-told-2 c = search rules
 
-returns : tie.Need-returns
-returns c = turned_back _ _ _ c.before.before.before.mesh-fault.ensures c.before.refusal.given.1
+returns : tie.Need-returns-in-Faulty
+returns c = turned_back _ _ _ c.mesh_fault.ensures c.in-Faulty.is
 
-returns-2 : tie.Need-returns-2
+returns-2 : tie.Need-returns-in-At
 returns-2 c =
-    let at_highest_of_all = c.before.before.before.before in
-    let at_mesh_fault = at_highest_of_all.before.before.before in
-    rw c.normal-of.ensures (best _ _ _ at_mesh_fault.mesh-fault.ensures at_highest_of_all.before.enum_told.given.1
-    at_highest_of_all.highest-of-all.ensures c.before.before.h.given.1)
+    let at_highest_of_all = c in
+    let at_mesh_fault = at_highest_of_all in
+    rw c.normal_of.ensures (best _ _ _ at_mesh_fault.mesh_fault.ensures at_highest_of_all.in-Fine.is
+    at_highest_of_all.highest_of_all.ensures c.in-At.is)
 
-returns-3 : tie.Need-returns-3
+returns-3 : tie.Need-returns-in-Nothing
 returns-3 c =
-    let at_enum_told = c.before.before.before in
-    nothing _ _ _ at_enum_told.before.before.mesh-fault.ensures at_enum_told.enum_told.given.1
-    c.before.before.highest-of-all.ensures c.enum-told2.given.1
+    let at_enum_told = c in
+    nothing _ _ _ at_enum_told.mesh_fault.ensures at_enum_told.in-Fine.is
+    c.highest_of_all.ensures c.in-Nothing.is
 
-pub height-at-spec : {M : Type 1} → statement M
-height-at-spec =
+pub height_at_spec : {M : Type 1} → statement M
+height_at_spec =
     tie.close
     (tie.spec
     mesh-fault-requires

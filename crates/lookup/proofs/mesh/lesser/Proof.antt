@@ -3,11 +3,11 @@ use Rattle.std.proofs.Common.{refl, inl, inr}
 use Rattle.lookup.proofs.mesh.lesser.Statement.{statement}
 use Rattle.lookup.proofs.mesh.lesser.Tie as tie
 
-returns : tie.Need-returns
+returns : tie.Need-returns-then-x-y
 returns c = inl refl
 
-returns-2 : tie.Need-returns-2
+returns-2 : tie.Need-returns
 returns-2 c = inr refl
 
-pub lesser-spec : {M : Type 1} → statement M
-lesser-spec = tie.close (tie.spec returns returns-2)
+pub lesser_spec : {M : Type 1} → statement M
+lesser_spec = tie.close (tie.spec returns returns-2)

@@ -5,16 +5,16 @@ use Rattle.lookup.specs.Mesh.{normal_at}
 use Rattle.lookup.proofs.mesh.normal_at.Statement.{statement}
 use Rattle.lookup.proofs.mesh.normal_at.Tie as tie
 
-vector-at-requires : tie.Need-vector-at-requires
+vector-at-requires : tie.Need-vector_at-requires
 vector-at-requires c κs = search rules
 
-returns : tie.Need-returns
+returns : tie.Need-returns-then-i-normals
 unfolding normal_at
-returns c = rw (lt-ltb _ _ c.before.if1.true) c.vector-at.ensures
+returns c = rw (lt-ltb _ _ c.if-i-normals.true) c.vector_at.ensures
 
-returns-2 : tie.Need-returns-2
+returns-2 : tie.Need-returns
 unfolding normal_at up_vector
-returns-2 c = rw (le-ltb _ _ c.if1.false)
+returns-2 c = rw (le-ltb _ _ c.if-i-normals.false)
 
-pub normal-at-spec : {M : Type 1} → statement M
-normal-at-spec = tie.close (tie.spec vector-at-requires returns returns-2)
+pub normal_at_spec : {M : Type 1} → statement M
+normal_at_spec = tie.close (tie.spec vector-at-requires returns returns-2)

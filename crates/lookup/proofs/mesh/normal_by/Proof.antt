@@ -13,21 +13,21 @@ blended : (vs ns : List Float) (is : List ℕ) (t : ℕ) (x y : Float) {w : Weig
 unfolding normal_of
 blended vs ns is t x y p h = rw (p.there, le-ltb _ _ h, p.same)
 
-normal-of-requires : tie.Need-normal-of-requires
+normal-of-requires : tie.Need-normal_of-requires
 normal-of-requires c κs = search rules
 
-returns : tie.Need-returns
+returns : tie.Need-returns-then-vertices-normals
 returns c = search rules
 
 blend-requires : tie.Need-blend-requires
-blend-requires c κs = present_below _ _ _ c.before.before.before.before.requires.there
+blend-requires c κs = present_below _ _ _ c.requires.there
 
-face-up-requires : tie.Need-face-up-requires
+face-up-requires : tie.Need-face_up-requires
 face-up-requires c κs = search rules
 
-returns-2 : tie.Need-returns-2
-returns-2 c = rw (c.face-up.ensures, c.before.blend.ensures) (blended _ _ _ _ _ _ c.before.before.before.before.before.before.requires c.before.before.if1.false)
+returns-2 : tie.Need-returns
+returns-2 c = rw (c.face_up.ensures, c.blend.ensures) (blended _ _ _ _ _ _ c.requires c.if-vertices-normals.false)
 
-pub normal-by-spec : {M : Type 1} → statement M
-normal-by-spec =
+pub normal_by_spec : {M : Type 1} → statement M
+normal_by_spec =
     tie.close (tie.spec normal-of-requires returns blend-requires face-up-requires returns-2)

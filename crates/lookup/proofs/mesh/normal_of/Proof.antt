@@ -28,46 +28,46 @@ module _ (vs ns : List Float) (is : List ℕ) (t : ℕ) (x y : Float) where
 corners-requires : tie.Need-corners-requires
 corners-requires c κs = search rules
 
-enum-known-a : tie.Need-enum-known-a
+enum-known-a : tie.Need-enum_known-a
 enum-known-a c = search rules
 
-enum_told : tie.Need-enum-told
+enum_told : tie.Need-enum_told-1
 enum_told c = search rules
 
-returns : tie.Need-returns
+returns : tie.Need-returns-in_default
 unfolding up_vector
-returns c = nowhere _ _ _ _ _ _ (sym c.enum_told.given.1 ∙ c.before.before.corners.ensures)
+returns c = nowhere _ _ _ _ _ _ (sym c.in_default.is ∙ c.corners.ensures)
 
 flat-requires : tie.Need-flat-requires
 flat-requires c κs = search rules
 
-face-up-requires : tie.Need-face-up-requires
+face-up-requires : tie.Need-face_up-requires
 face-up-requires c κs = search rules
 
-returns-2 : tie.Need-returns-2
+returns-2 : tie.Need-returns-then-vertices-normals
 returns-2 c =
-    let at_a = c.before.before.before.before in
-    rw (c.face-up.ensures, c.before.flat.ensures)
-    (own _ _ _ _ _ _ (sym at_a.a.given.1 ∙ at_a.before.before.corners.ensures) c.before.before.if1.true)
+    let at_a = c in
+    rw (c.face_up.ensures, c.flat.ensures)
+    (own _ _ _ _ _ _ (sym at_a.in-Corners.is ∙ at_a.corners.ensures) c.if-vertices-normals.true)
 
 weigh-requires : tie.Need-weigh-requires
 weigh-requires c κs = search rules
 
 blend-requires : tie.Need-blend-requires
-blend-requires c κs = present_below _ _ _ (there _ _ _ (sym c.before.before.before.a.given.1 ∙ c.before.before.before.before.before.corners.ensures)).0
+blend-requires c κs = present_below _ _ _ (there _ _ _ (sym c.in-Corners.is ∙ c.corners.ensures)).0
 
-face-up-requires-2 : tie.Need-face-up-requires-2
+face-up-requires-2 : tie.Need-face_up-requires-2
 face-up-requires-2 c κs = search rules
 
-returns-3 : tie.Need-returns-3
+returns-3 : tie.Need-returns
 returns-3 c =
-    let at_if1 = c.before.before.before in
-    let at_corners = at_if1.before.before.before.before in
-    rw (c.face-up2.ensures, c.before.blend.ensures, c.before.before.weigh.ensures)
-    (blended _ _ _ _ _ _ (sym at_if1.before.before.a.given.1 ∙ at_corners.corners.ensures) at_if1.if1.false)
+    let at_if1 = c in
+    let at_corners = at_if1 in
+    rw (c.face_up-2.ensures, c.blend.ensures, c.weigh.ensures)
+    (blended _ _ _ _ _ _ (sym at_if1.in-Corners.is ∙ at_corners.corners.ensures) at_if1.if-vertices-normals.false)
 
-pub normal-of-spec : {M : Type 1} → statement M
-normal-of-spec =
+pub normal_of_spec : {M : Type 1} → statement M
+normal_of_spec =
     tie.close
     (tie.spec
     corners-requires

@@ -8,5 +8,5 @@ returns : tie.Need-returns
 unfolding over_a
 returns c = refl
 
-pub over-a-spec : {M : Type 1} → statement M
-over-a-spec = tie.close (tie.spec returns)
+pub over_a_spec : {M : Type 1} → statement M
+over_a_spec = tie.close (tie.spec returns)

@@ -4,7 +4,7 @@ use Rattle.std.proofs.Common.{rules}
 use Rattle.lookup.proofs.mesh.weight_a.Statement.{statement}
 use Rattle.lookup.proofs.mesh.weight_a.Tie as tie
 
-over-a-requires : tie.Need-over-a-requires
+over-a-requires : tie.Need-over_a-requires
 over-a-requires c κs = search rules
 
 det-requires : tie.Need-det-requires
@@ -12,7 +12,7 @@ det-requires c κs = search rules
 
 returns : tie.Need-returns
 unfolding weight_a
-returns c = rw (c.det.ensures, c.before.over-a.ensures)
+returns c = rw (c.det.ensures, c.over_a.ensures)
 
-pub weight-a-spec : {M : Type 1} → statement M
-weight-a-spec = tie.close (tie.spec over-a-requires det-requires returns)
+pub weight_a_spec : {M : Type 1} → statement M
+weight_a_spec = tie.close (tie.spec over-a-requires det-requires returns)

@@ -11,5 +11,5 @@ returns : tie.Need-returns
 unfolding weight_b
 returns c = rw c.det.ensures
 
-pub weight-b-spec : {M : Type 1} → statement M
-weight-b-spec = tie.close (tie.spec det-requires returns)
+pub weight_b_spec : {M : Type 1} → statement M
+weight_b_spec = tie.close (tie.spec det-requires returns)

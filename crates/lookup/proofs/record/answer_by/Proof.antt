@@ -7,43 +7,43 @@ use Rattle.lookup.specs.Record.{record_answer, RecordFits}
 use Rattle.lookup.proofs.record.answer_by.Statement.{statement}
 use Rattle.lookup.proofs.record.answer_by.Tie as tie
 
-enum-known-s : tie.Need-enum-known-s
+enum-known-s : tie.Need-enum_known-s
 enum-known-s c = search rules
 
-enum_told : tie.Need-enum-told
+enum_told : tie.Need-enum_told-1
 enum_told c = search rules
 
-put-front-requires : tie.Need-put-front-requires
+put-front-requires : tie.Need-put_front-requires
 unfolding RecordFits read_sampled
-put-front-requires c κs = rw c.before.enum_told.given.1 tt
+put-front-requires c κs = rw c.in-None.is tt
 
-enum-known-s-2 : tie.Need-enum-known-s-2
+enum-known-s-2 : tie.Need-enum_known-s-in-Found-1
 enum-known-s-2 c = search rules
 
-put-front-requires-2 : tie.Need-put-front-requires-2
+put-front-requires-2 : tie.Need-put_front-requires-in-Found
 unfolding read_sampled
-put-front-requires-2 c κs = c.before.before.before.before.before.requires _ (ap read_sampled c.before.before.s2.given.1)
+put-front-requires-2 c κs = c.requires _ (ap read_sampled c.in-Found.is)
 
-returns : tie.Need-returns
+returns : tie.Need-returns-in-Refused
 unfolding record_answer read_sampled read_sampling leaves
-returns c = let e = c.before.s.given.1 in (rw e, rw e)
+returns c = let e = c.in-Refused.is in (rw e, rw e)
 
-same_length : tie.Need-same-length
+same_length : tie.Need-shape_of-words-in-None
 same_length c = search rules
 
-returns-2 : tie.Need-returns-2
+returns-2 : tie.Need-returns-in-None
 unfolding record_answer read_sampled
-returns-2 c = let e = c.before.before.before.before.enum_told.given.1 in (rw e c.before.before.put_front.ensures.0, rw e (rw e at c.before.before.put_front.ensures.1))
+returns-2 c = let e = c.in-None.is in (rw e c.put_front.ensures.0, rw e (rw e at c.put_front.ensures.1))
 
-same-length-2 : tie.Need-same-length-2
+same-length-2 : tie.Need-shape_of-words-in-Found
 same-length-2 c = search rules
 
-returns-3 : tie.Need-returns-3
+returns-3 : tie.Need-returns-in-Found
 unfolding record_answer read_sampled
-returns-3 c = let e = c.before.before.before.before.before.s2.given.1 in (rw e c.before.before.put-front2.ensures.0, rw e c.before.before.put-front2.ensures.1)
+returns-3 c = let e = c.in-Found.is in (rw e c.put_front-in-Found.ensures.0, rw e c.put_front-in-Found.ensures.1)
 
-pub answer-by-spec : {M : Type 1} → statement M
-answer-by-spec =
+pub answer_by_spec : {M : Type 1} → statement M
+answer_by_spec =
     tie.close
     (tie.spec
     enum-known-s

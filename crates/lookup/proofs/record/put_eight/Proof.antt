@@ -4,18 +4,18 @@ use Rattle.std.proofs.Common.{rules}
 use Rattle.lookup.proofs.record.put_eight.Statement.{statement}
 use Rattle.lookup.proofs.record.put_eight.Tie as tie
 
-put-four-requires : tie.Need-put-four-requires
+put-four-requires : tie.Need-put_four-next-requires
 put-four-requires c κs = search rules
 
-put-four-requires-2 : tie.Need-put-four-requires-2
+put-four-requires-2 : tie.Need-put_four-requires
 put-four-requires-2 c κs = search rules
 
-same_length : tie.Need-same-length
+same_length : tie.Need-shape_of-out
 same_length c = search rules
 
 returns : tie.Need-returns
-returns c = put_then c.before.before.before.before.before.before.put_four.ensures c.before.before.put-four2.ensures
+returns c = put_then c.put_four-next.ensures c.put_four.ensures
 
-pub put-eight-spec : {M : Type 1} → statement M
-put-eight-spec =
+pub put_eight_spec : {M : Type 1} → statement M
+put_eight_spec =
     tie.close (tie.spec put-four-requires put-four-requires-2 same_length returns)

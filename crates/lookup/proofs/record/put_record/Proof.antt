@@ -22,43 +22,43 @@ refused_words : {s : Sampled} {r : Refusal} → s ≡ Refused r → RecordFits (
 unfolding RecordFits read_sampled
 refused_words e w = rw e at w
 
-enum-known-s : tie.Need-enum-known-s
+enum-known-s : tie.Need-enum_known-s
 enum-known-s c = search rules
 
 bits32-requires : tie.Need-bits32-requires
 bits32-requires c κs = search rules
 
-bits32-requires-2 : tie.Need-bits32-requires-2
+bits32-requires-2 : tie.Need-bits32-requires-in-Found
 bits32-requires-2 c κs = search rules
 
-bits32-requires-3 : tie.Need-bits32-requires-3
+bits32-requires-3 : tie.Need-bits32-requires-in-Found-2
 bits32-requires-3 c κs = search rules
 
-bits32-requires-4 : tie.Need-bits32-requires-4
+bits32-requires-4 : tie.Need-bits32-requires-in-Found-3
 bits32-requires-4 c κs = search rules
 
 word-requires : tie.Need-word-requires
 word-requires c κs = search rules
 
-lane-there-requires : tie.Need-lane-there-requires
+lane-there-requires : tie.Need-lane_there-requires
 lane-there-requires c κs = search rules
 
-lane-id-requires : tie.Need-lane-id-requires
+lane-id-requires : tie.Need-lane_id-requires
 lane-id-requires c κs = search rules
 
-word-requires-2 : tie.Need-word-requires-2
+word-requires-2 : tie.Need-word-requires-in-Found
 word-requires-2 c κs = search rules
 
-put-eight-requires : tie.Need-put-eight-requires
+put-eight-requires : tie.Need-put_eight-requires
 put-eight-requires c κs = search rules
 
-enum_told : tie.Need-enum-told
+enum_told : tie.Need-enum_told-1
 enum_told c = search rules
 
-put-eight-requires-2 : tie.Need-put-eight-requires-2
+put-eight-requires-2 : tie.Need-put_eight-requires-in-None
 put-eight-requires-2 c κs = search rules
 
-enum-known-s-2 : tie.Need-enum-known-s-2
+enum-known-s-2 : tie.Need-enum_known-s-in-Refused-1
 enum-known-s-2 c = search rules
 
 number-requires : tie.Need-number-requires
@@ -67,57 +67,57 @@ number-requires c κs = search rules
 place-requires : tie.Need-place-requires
 place-requires c κs = search rules
 
-word-requires-3 : tie.Need-word-requires-3
+word-requires-3 : tie.Need-word-requires-in-Refused
 word-requires-3 c κs = search rules
 
-put-eight-requires-3 : tie.Need-put-eight-requires-3
+put-eight-requires-3 : tie.Need-put_eight-requires-in-Refused
 put-eight-requires-3 c κs = search rules
 
-same_length : tie.Need-same-length
+same_length : tie.Need-shape_of-out-in-Found
 same_length c = search rules
 
-returns : tie.Need-returns
+returns : tie.Need-returns-in-Found
 unfolding record_of read_sampled
 returns c =
-    let at_word2 = c.before.before.before in
-    let w = at_word2.before.before.before in
-    let at_bits322 = w.before.before.before in
-    let s = at_bits322.before.before.before.before in
-    let start = s.before.before.before in
-    let k = found_words s.s.given.1 start.requires.1 in
+    let at_word2 = c in
+    let w = at_word2 in
+    let at_bits322 = w in
+    let s = at_bits322 in
+    let start = s in
+    let k = found_words s.in-Found.is start.requires.1 in
     let t = w.word.ensures ∙ word_is _ k.0 in
-    let l = at_word2.word2.ensures ∙ ap word_for at_word2.before.lane-id.ensures ∙ word_is _ k.1 in
+    let l = at_word2.word-in-Found.ensures ∙ ap word_for at_word2.lane_id.ensures ∙ word_is _ k.1 in
     rw (
-      s.s.given.1,
-      ← at_bits322.before.bits32.ensures,
-      ← at_bits322.bits322.ensures,
-      ← w.before.before.bits323.ensures,
-      ← w.before.bits324.ensures,
-      ← at_word2.before.before.lane-there.ensures,
-    ) (rw (t, l) at c.before.before.put-eight.ensures)
+      s.in-Found.is,
+      ← at_bits322.bits32.ensures,
+      ← at_bits322.bits32-in-Found.ensures,
+      ← w.bits32-in-Found-2.ensures,
+      ← w.bits32-in-Found-3.ensures,
+      ← at_word2.lane_there.ensures,
+    ) (rw (t, l) at c.put_eight.ensures)
 
-same-length-2 : tie.Need-same-length-2
+same-length-2 : tie.Need-shape_of-out-in-None
 same-length-2 c = search rules
 
-returns-2 : tie.Need-returns-2
+returns-2 : tie.Need-returns-in-None
 unfolding record_of read_sampled
-returns-2 c = rw c.before.before.before.before.enum_told.given.1 c.before.before.put-eight2.ensures
+returns-2 c = rw c.in-None.is c.put_eight-in-None.ensures
 
-same-length-3 : tie.Need-same-length-3
+same-length-3 : tie.Need-shape_of-out-in-Refused
 same-length-3 c = search rules
 
-returns-3 : tie.Need-returns-3
+returns-3 : tie.Need-returns-in-Refused
 unfolding record_of read_sampled
 returns-3 c =
-    let at_word3 = c.before.before.before in
-    let s = at_word3.before.before.before.before.before in
-    let start = s.before.before.before in
+    let at_word3 = c in
+    let s = at_word3 in
+    let start = s in
     let p =
-    at_word3.word3.ensures ∙ ap word_for at_word3.before.place.ensures ∙ word_is _ (refused_words s.s2.given.1 start.requires.1) in
-    rw (s.s2.given.1, ← at_word3.before.before.number.ensures, ← p) c.before.before.put-eight3.ensures
+    at_word3.word-in-Refused.ensures ∙ ap word_for at_word3.place.ensures ∙ word_is _ (refused_words s.in-Refused.is start.requires.1) in
+    rw (s.in-Refused.is, ← at_word3.number.ensures, ← p) c.put_eight-in-Refused.ensures
 
-pub put-record-spec : {M : Type 1} → statement M
-put-record-spec =
+pub put_record_spec : {M : Type 1} → statement M
+put_record_spec =
     tie.close
     (tie.spec
     enum-known-s

@@ -15,78 +15,78 @@ M s = mesh_lists s.args.vertices.now s.args.normals.now s.args.indices.now s.arg
 abbrev L : tie.After-locate → tie.Start
 L c = c.before.before.before.before.before.before
 
-abbrev H : tie.After-highest → tie.After-locate
-H c = c.before.before.before.before.before
+abbrev H : tie.After-highest-hit → tie.After-locate
+H c = c.before.before.before
 
 locate-requires : tie.Need-locate-requires
 locate-requires c κs =
-    let start = c.before.before.before.before.before in
+    let start = c in
     (start.requires.1.sided, start.requires.1.is)
 
-enum-known-r : tie.Need-enum-known-r
+enum-known-r : tie.Need-enum_known-r
 enum-known-r c = search rules
 
-enum_told : tie.Need-enum-told
+enum_told : tie.Need-enum_told-1
 enum_told c = search rules
 
-enum-known-from : tie.Need-enum-known-from
+enum-known-from : tie.Need-enum_known-from
 enum-known-from c = search rules
 
 at-requires : tie.Need-at-requires
 at-requires c κs = search rules
 
-highest-requires : tie.Need-highest-requires
+highest-requires : tie.Need-highest-hit-requires
 highest-requires c κs = search rules
 
-run-check-requires : tie.Need-run-check-requires
-run-check-requires c κs = λ w r. run_sound _ _ _ _ _ _ c.before.at.ensures r (c.highest.ensures.0.flag.all w)
+run-check-requires : tie.Need-run_check-check-requires
+run-check-requires c κs = λ w r. run_sound _ _ _ _ _ _ c.at.ensures r (c.highest-hit.ensures.0.flag.all w)
 
-enum-known-check : tie.Need-enum-known-check
+enum-known-check : tie.Need-enum_known-check
 enum-known-check c = search rules
 
-returns : tie.Need-returns
+returns : tie.Need-returns-in-Faulty
 unfolding read_sampled
 returns c =
-    let at_run_check = c.before.before.before in
-    let at_from = at_run_check.before.before.before.before in
+    let at_run_check = c.before in
+    let at_from = at_run_check in
     let l = H at_run_check.before in
     let s = L l in
-    refuses (M s) _ _ _ s.pre.0 ((run_is _ _ (l.locate.ensures _ s.pre.1.sound) at_from.from.given.1).foreign _ _
-    (faulty c.before.check.given.1 at_run_check.run-check.ensures))
+    refuses (M s) _ _ _ s.requires.0 ((run_is _ _ (l.locate.ensures _ s.requires.1.sound) at_from.in-Run.is).foreign _ _
+    (faulty c.in-Faulty.is at_run_check.run_check-check.ensures))
 
-enum-told-2 : tie.Need-enum-told-2
+enum-told-2 : tie.Need-enum_told-in_default
 enum-told-2 c = search rules
 
-answer-of-requires : tie.Need-answer-of-requires
+answer-of-requires : tie.Need-answer_of-requires
 answer-of-requires c κs =
-    let at_highest = c.before.before.before in
+    let at_highest = c.before.before in
     let s = L (H at_highest) in
-    let o = ordered (M s) _ s.args.x s.args.y s.pre.0 in
-    let h = at_highest.highest.ensures in
-    ((small (M s) _ s.args.x s.args.y s.pre.0 _ at_highest.before.at.ensures _ h.0.found, o.spans, o.ends), h.1)
+    let o = ordered (M s) _ s.args.x s.args.y s.requires.0 in
+    let h = at_highest.highest-hit.ensures in
+    ((small (M s) _ s.args.x s.args.y s.requires.0 _ at_highest.at.ensures _ h.0.found, o.spans, o.ends), h.1)
 
-returns-2 : tie.Need-returns-2
+returns-2 : tie.Need-returns-in-Refused
 unfolding read_sampled
-returns-2 c = let s = L c.before.before.before in refuses (M s) _ _ _ s.pre.0 (refused_is _ _ (c.before.before.before.locate.ensures _ s.pre.1.sound) c.before.r.given.1)
+returns-2 c = let s = L c.before in refuses (M s) _ _ _ s.requires.0 (refused_is _ _ (c.locate.ensures _ s.requires.1.sound) c.in-Refused.is)
 
-returns-3 : tie.Need-returns-3
+returns-3 : tie.Need-returns-in-Nowhere
 unfolding read_sampled
-returns-3 c = let s = L c.before.before in nothing (M s) _ _ _ s.pre.0 (nowhere_is _ _ (c.before.before.locate.ensures _ s.pre.1.sound) c.enum_told.given.1)
+returns-3 c = let s = L c.before in nothing (M s) _ _ _ s.requires.0 (nowhere_is _ _ (c.locate.ensures _ s.requires.1.sound) c.in-Nowhere.is)
 
-returns-4 : tie.Need-returns-4
+returns-4 : tie.Need-returns-in_default
 returns-4 c =
-    let at_run_check = c.before.before.before in
-    let at_highest = at_run_check.before in
-    let at_from = at_highest.before.before.before in
+    let at_run_check = c in
+    let at_highest = at_run_check.before.before.before in
+    let at_from = at_highest in
     let l = H at_highest in
     let s = L l in
-    c.answer-of.ensures
-    ∙ gives (M s) _ _ _ s.pre.0 ((run_is _ _ (l.locate.ensures _ s.pre.1.sound) at_from.from.given.1).sound
-    (sound c.before.enum-told2.given.1 at_run_check.run-check.ensures)) at_highest.before.at.ensures
-    at_highest.highest.ensures.0.found
+    c.answer_of.ensures
+    ∙ gives (M s) _ _ _ s.requires.0 ((run_is _ _ (l.locate.ensures _ s.requires.1.sound) at_from.in-Run.is).sound
+    (sound c.in_default.is at_run_check.run_check-check.ensures)) at_highest.at.ensures
+    at_highest.highest-hit.ensures.0.found
 
-pub sample-in-spec : {M : Type 1} → statement M
-sample-in-spec =
+pub sample_in_spec : {M : Type 1} → statement M
+sample_in_spec =
     tie.close
     (tie.spec
     locate-requires

@@ -10,7 +10,7 @@ number-requires c κs = search rules
 wide-requires : tie.Need-wide-requires
 wide-requires c κs = search rules
 
-mul-result : tie.Need-overflow-mul-result
+mul-result : tie.Need-overflow_mul-result
 mul-result c = search rules
 
 place-requires : tie.Need-place-requires
@@ -22,23 +22,23 @@ word-requires c κs = search rules
 wide-requires-2 : tie.Need-wide-requires-2
 wide-requires-2 c κs = search rules
 
-add-result : tie.Need-overflow-add-result
+add-result : tie.Need-overflow_add-result
 add-result c = search rules
 
 returns : tie.Need-returns
 unfolding code_for
 returns c =
-    let at_wide = c.before.before.before in
+    let at_wide = c in
     rw (
-      c.wide2.ensures,
-      c.before.word.ensures,
-      c.before.before.place.ensures,
+      c.wide-2.ensures,
+      c.word.ensures,
+      c.place.ensures,
       at_wide.wide.ensures,
-      at_wide.before.number.ensures,
+      at_wide.number.ensures,
     )
 
-pub code-spec : {M : Type 1} → statement M
-code-spec =
+pub code_spec : {M : Type 1} → statement M
+code_spec =
     tie.close
     (tie.spec
     number-requires

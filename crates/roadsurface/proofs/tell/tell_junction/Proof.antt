@@ -5,26 +5,26 @@ use borrow.Author.Rules.{rules}
 use Rattle.roadsurface.proofs.tell.tell_junction.Statement.{statement}
 use Rattle.roadsurface.proofs.tell.tell_junction.Tie as tie
 
-enum-known-a : tie.Need-enum-known-a
+enum-known-a : tie.Need-enum_known-a
 enum-known-a c = search rules
 
 count-requires : tie.Need-count-requires
 count-requires c κs = search rules
 
-enum-known-a-2 : tie.Need-enum-known-a-2
+enum-known-a-2 : tie.Need-enum_known-a-in-Refused-1
 enum-known-a-2 c = search rules
 
 code-requires : tie.Need-code-requires
 code-requires c κs = search rules
 
-returns : tie.Need-returns
+returns : tie.Need-returns-in-Made
 unfolding read_ground code_of
-returns c = rw c.before.before.a.given.1 c.count.ensures
+returns c = rw c.in-Made.is c.count.ensures
 
-returns-2 : tie.Need-returns-2
+returns-2 : tie.Need-returns-in-Refused
 unfolding read_ground code_of
-returns-2 c = rw c.before.before.a2.given.1 c.code.ensures
+returns-2 c = rw c.in-Refused.is c.code.ensures
 
-pub tell-junction-spec : {M : Type 1} → statement M
-tell-junction-spec =
+pub tell_junction_spec : {M : Type 1} → statement M
+tell_junction_spec =
     tie.close (tie.spec enum-known-a count-requires enum-known-a-2 code-requires returns returns-2)

@@ -5,40 +5,40 @@ use borrow.Author.Rules.{rules}
 use Rattle.roadsurface.proofs.tell.tell_mesh.Statement.{statement}
 use Rattle.roadsurface.proofs.tell.tell_mesh.Tie as tie
 
-enum-known-a : tie.Need-enum-known-a
+enum-known-a : tie.Need-enum_known-a
 enum-known-a c = search rules
 
 word-requires : tie.Need-word-requires
 word-requires c κs = search rules
 
-word-requires-2 : tie.Need-word-requires-2
+word-requires-2 : tie.Need-word-requires-in-Made
 word-requires-2 c κs = search rules
 
-word-requires-3 : tie.Need-word-requires-3
+word-requires-3 : tie.Need-word-requires-in-Made-2
 word-requires-3 c κs = search rules
 
 count-requires : tie.Need-count-requires
 count-requires c κs = search rules
 
-enum-known-a-2 : tie.Need-enum-known-a-2
+enum-known-a-2 : tie.Need-enum_known-a-in-Refused-1
 enum-known-a-2 c = search rules
 
 code-requires : tie.Need-code-requires
 code-requires c κs = search rules
 
-returns : tie.Need-returns
+returns : tie.Need-returns-in-Made
 unfolding read_mesh code_of left_in
 returns c =
-    let at_word = c.before.before.before in
-    let e = at_word.before.before.a.given.1 in
-    (rw e c.count.ensures, (rw e at_word.word.ensures, (rw e c.before.before.word2.ensures, rw e c.before.word3.ensures)))
+    let at_word = c in
+    let e = at_word.in-Made.is in
+    (rw e c.count.ensures, (rw e at_word.word.ensures, (rw e c.word-in-Made.ensures, rw e c.word-in-Made-2.ensures)))
 
-returns-2 : tie.Need-returns-2
+returns-2 : tie.Need-returns-in-Refused
 unfolding read_mesh code_of left_in
-returns-2 c = let e = c.before.before.a2.given.1 in (rw e c.code.ensures, (rw e, (rw e, rw e)))
+returns-2 c = let e = c.in-Refused.is in (rw e c.code.ensures, (rw e, (rw e, rw e)))
 
-pub tell-mesh-spec : {M : Type 1} → statement M
-tell-mesh-spec =
+pub tell_mesh_spec : {M : Type 1} → statement M
+tell_mesh_spec =
     tie.close
     (tie.spec
     enum-known-a

@@ -8,13 +8,13 @@ use Rattle.rounding.proofs.bits.stored_word.Tie as tie
 bits32-requires : tie.Need-bits32-requires
 bits32-requires c κs = search rules
 
-returns : tie.Need-returns
+returns : tie.Need-returns-then-x
 unfolding of_bits
-returns c = stored_zero c.before.args.x c.if1.true
+returns c = stored_zero c.args.x c.if-x.true
 
-returns-2 : tie.Need-returns-2
+returns-2 : tie.Need-returns-else-x
 unfolding of_bits
-returns-2 c = c.bits32.ensures ∙ stored_other c.before.before.args.x c.before.if1.false
+returns-2 c = c.bits32.ensures ∙ stored_other c.args.x c.if-x.false
 
-pub stored-word-spec : {M : Type 1} → statement M
-stored-word-spec = tie.close (tie.spec bits32-requires returns returns-2)
+pub stored_word_spec : {M : Type 1} → statement M
+stored_word_spec = tie.close (tie.spec bits32-requires returns returns-2)

@@ -8,7 +8,7 @@ squares-requires : tie.Need-squares-requires
 squares-requires c κs = search rules
 
 returns : tie.Need-returns
-returns c = rw c.squares.ensures (sym (above_milli c.before.args.a c.before.args.b))
+returns c = rw c.squares.ensures (sym (above_milli c.args.a c.args.b))
 
-pub hypot-above-milli-spec : {M : Type 1} → statement M
-hypot-above-milli-spec = tie.close (tie.spec squares-requires returns)
+pub hypot_above_milli_spec : {M : Type 1} → statement M
+hypot_above_milli_spec = tie.close (tie.spec squares-requires returns)

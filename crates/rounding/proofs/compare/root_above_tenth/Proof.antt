@@ -11,7 +11,7 @@ returns : tie.Need-returns
 returns c =
     sym
     (edge binary32 (λ v. lt tenth v) (above (λ v. v) as_it_is tenth) (of_bits binary32 0x3c23_d70c) (of_bits binary32 0x3c23_d70b) passes_tenth
-    c.args.x (subst T (sym c.well-formed.0.1) tt))
+    c.args.x (subst T (sym c.well_formed.0.1) tt))
 
-pub root-above-tenth-spec : {M : Type 1} → statement M
-root-above-tenth-spec = tie.close (tie.spec returns)
+pub root_above_tenth_spec : {M : Type 1} → statement M
+root_above_tenth_spec = tie.close (tie.spec returns)

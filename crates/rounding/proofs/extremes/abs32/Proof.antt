@@ -8,19 +8,19 @@ use Rattle.rounding.proofs.extremes.abs32.Tie as tie
 
 -- what owning the float tells: the format holds it
 held : (c : tie.Start) → T (fits binary32 c.args.x)
-held c = subst T (sym c.well-formed.0.1) tt
+held c = subst T (sym c.well_formed.0.1) tt
 
-returns : tie.Need-returns
-returns c = nan_size c.before.args.x c.if1.true
+returns : tie.Need-returns-then-x
+returns c = nan_size c.args.x c.if-x.true
 
-float-to-bits-result : tie.Need-float-to-bits-result
-float-to-bits-result c = no_nan c.before.args.x c.if1.false
+float-to-bits-result : tie.Need-float_to_bits-result
+float-to-bits-result c = no_nan c.args.x c.if-x.false
 
-float-from-bits-result : tie.Need-float-from-bits-result
-float-from-bits-result c = unsigned_plain binary32 c.before.args.x (held c.before) c.if1.false
+float-from-bits-result : tie.Need-float_from_bits-result
+float-from-bits-result c = unsigned_plain binary32 c.args.x (held c.before) c.if-x.false
 
-returns-2 : tie.Need-returns-2
-returns-2 c = unsigned_word binary32 c.before.args.x (held c.before)
+returns-2 : tie.Need-returns
+returns-2 c = unsigned_word binary32 c.args.x (held c.before)
 
-pub abs32-spec : {M : Type 1} → statement M
-abs32-spec = tie.close (tie.spec returns float-to-bits-result float-from-bits-result returns-2)
+pub abs32_spec : {M : Type 1} → statement M
+abs32_spec = tie.close (tie.spec returns float-to-bits-result float-from-bits-result returns-2)

@@ -6,16 +6,16 @@ use Rattle.rounding.proofs.extremes.clamp32.Statement.{statement}
 use Rattle.rounding.proofs.extremes.clamp32.Tie as tie
 
 -- what was made of x by the lower bound
-made : (c : tie.Joined1) → c.if1.y ≡ cond (lt c.before.args.x c.before.args.lo) c.before.args.lo c.before.args.x
+made : (c : tie.Joined-x-lo) → c.if-x-lo.y ≡ cond (lt c.args.x c.args.lo) c.args.lo c.args.x
 made c =
-    let a = c.before.args in
-    ⊎_elim (λ w. raised a.x a.lo c.if1.y w.0.taken w.1) (λ w. unraised a.x a.lo c.if1.y w.0.left w.1) c.if1.branch
+    let a = c.args in
+    ⊎_elim (λ w. raised a.x a.lo c.if-x-lo.y w.if-x-lo.true w.y-is) (λ w. unraised a.x a.lo c.if-x-lo.y w.if-x-lo.false w.y-is) c.if-x-lo.branch-raw
 
-returns : tie.Need-returns
-returns c = let a = c.before.before.args in brought_down a.x a.lo a.hi c.before.if1.y (made c.before) c.if2.true
+returns : tie.Need-returns-then-hi-y
+returns c = let a = c.args in brought_down a.x a.lo a.hi c.if-x-lo.y (made c.before) c.if-hi-y.true
 
-returns-2 : tie.Need-returns-2
-returns-2 c = let a = c.before.before.args in stays a.x a.lo a.hi c.before.if1.y (made c.before) c.if2.false
+returns-2 : tie.Need-returns-else-hi-y
+returns-2 c = let a = c.args in stays a.x a.lo a.hi c.if-x-lo.y (made c.before) c.if-hi-y.false
 
-pub clamp32-spec : {M : Type 1} → statement M
-clamp32-spec = tie.close (tie.spec returns returns-2)
+pub clamp32_spec : {M : Type 1} → statement M
+clamp32_spec = tie.close (tie.spec returns returns-2)

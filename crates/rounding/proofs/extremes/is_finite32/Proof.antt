@@ -4,13 +4,13 @@ use Rattle.rounding.proofs.Choosing.{under_infinity, not_under_infinity}
 use Rattle.rounding.proofs.extremes.is_finite32.Statement.{statement}
 use Rattle.rounding.proofs.extremes.is_finite32.Tie as tie
 
-returns : tie.Need-returns
+returns : tie.Need-returns-then-x
 unfolding div neg of_bits
-returns c = under_infinity c.before.args.x c.if1.true
+returns c = under_infinity c.args.x c.if-x.true
 
-returns-2 : tie.Need-returns-2
+returns-2 : tie.Need-returns
 unfolding div of_bits
-returns-2 c = not_under_infinity c.before.args.x c.if1.false
+returns-2 c = not_under_infinity c.args.x c.if-x.false
 
-pub is-finite32-spec : {M : Type 1} → statement M
-is-finite32-spec = tie.close (tie.spec returns returns-2)
+pub is_finite32_spec : {M : Type 1} → statement M
+is_finite32_spec = tie.close (tie.spec returns returns-2)

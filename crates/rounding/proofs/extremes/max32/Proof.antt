@@ -4,16 +4,16 @@ use Rattle.rounding.proofs.Choosing.{max_left, passes_nan, takes_right}
 use Rattle.rounding.proofs.extremes.max32.Statement.{statement}
 use Rattle.rounding.proofs.extremes.max32.Tie as tie
 
-returns : tie.Need-returns
-returns c = max_left c.before.args.x c.before.args.y c.if1.true
+returns : tie.Need-returns-then-y-x
+returns c = max_left c.args.x c.args.y c.if-y-x.true
 
-returns-2 : tie.Need-returns-2
+returns-2 : tie.Need-returns-then-y
 unfolding max_of
-returns-2 c = passes_nan ge c.before.before.args.x c.before.before.args.y c.if2.true
+returns-2 c = passes_nan ge c.args.x c.args.y c.if-y.true
 
-returns-3 : tie.Need-returns-3
+returns-3 : tie.Need-returns-else-y
 unfolding max_of
-returns-3 c = takes_right ge c.before.before.args.x c.before.before.args.y c.before.if1.false c.if2.false
+returns-3 c = takes_right ge c.args.x c.args.y c.if-y-x.false c.if-y.false
 
-pub max32-spec : {M : Type 1} → statement M
-max32-spec = tie.close (tie.spec returns returns-2 returns-3)
+pub max32_spec : {M : Type 1} → statement M
+max32_spec = tie.close (tie.spec returns returns-2 returns-3)

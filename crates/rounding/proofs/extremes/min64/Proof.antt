@@ -5,16 +5,16 @@ use Rattle.rounding.proofs.Choosing.{min_left, passes_nan, takes_right}
 use Rattle.rounding.proofs.extremes.min64.Statement.{statement}
 use Rattle.rounding.proofs.extremes.min64.Tie as tie
 
-returns : tie.Need-returns
-returns c = min_left c.before.args.x c.before.args.y c.if1.true
+returns : tie.Need-returns-then-x-y
+returns c = min_left c.args.x c.args.y c.if-x-y.true
 
-returns-2 : tie.Need-returns-2
+returns-2 : tie.Need-returns-then-y
 unfolding min_of
-returns-2 c = passes_nan le c.before.before.args.x c.before.before.args.y c.if2.true
+returns-2 c = passes_nan le c.args.x c.args.y c.if-y.true
 
-returns-3 : tie.Need-returns-3
+returns-3 : tie.Need-returns-else-y
 unfolding min_of
-returns-3 c = takes_right le c.before.before.args.x c.before.before.args.y c.before.if1.false c.if2.false
+returns-3 c = takes_right le c.args.x c.args.y c.if-x-y.false c.if-y.false
 
-pub min64-spec : {M : Type 1} → statement M
-min64-spec = tie.close (tie.spec returns returns-2 returns-3)
+pub min64_spec : {M : Type 1} → statement M
+min64_spec = tie.close (tie.spec returns returns-2 returns-3)

@@ -15,7 +15,7 @@ narrow-requires c κs = search rules
 
 returns : tie.Need-returns
 unfolding hypot_of
-returns c = rw (c.narrow.ensures, c.before.sqrt64.ensures, c.before.before.squares.ensures)
+returns c = rw (c.narrow.ensures, c.sqrt64.ensures, c.squares.ensures)
 
-pub hypot-spec : {M : Type 1} → statement M
-hypot-spec = tie.close (tie.spec squares-requires sqrt64-requires narrow-requires returns)
+pub hypot_spec : {M : Type 1} → statement M
+hypot_spec = tie.close (tie.spec squares-requires sqrt64-requires narrow-requires returns)

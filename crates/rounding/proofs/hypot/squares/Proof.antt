@@ -4,15 +4,15 @@ use Rattle.rounding.specs.Hypot.{squares_of}
 use Rattle.rounding.proofs.hypot.squares.Statement.{statement}
 use Rattle.rounding.proofs.hypot.squares.Tie as tie
 
-widen-requires : tie.Need-widen-requires
+widen-requires : tie.Need-widen-x-requires
 widen-requires c κs = search rules
 
-widen-requires-2 : tie.Need-widen-requires-2
+widen-requires-2 : tie.Need-widen-y-requires
 widen-requires-2 c κs = search rules
 
 returns : tie.Need-returns
 unfolding squares_of
-returns c = rw (c.widen2.ensures, c.before.widen.ensures)
+returns c = rw (c.widen-y.ensures, c.widen-x.ensures)
 
-pub squares-spec : {M : Type 1} → statement M
-squares-spec = tie.close (tie.spec widen-requires widen-requires-2 returns)
+pub squares_spec : {M : Type 1} → statement M
+squares_spec = tie.close (tie.spec widen-requires widen-requires-2 returns)

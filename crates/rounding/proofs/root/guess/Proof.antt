@@ -16,30 +16,30 @@ bounded c = curve (first c) (omega arith)
 quotient : (c : tie.Start) → c.args.n / 0x40_0000 / (17270 + arc c / 0x8000) ≤ c.args.n / 0x40_0000
 quotient c = div-le_self (c.args.n / 0x40_0000) (17270 + arc c / 0x8000)
 
-mul-g : tie.Need-overflow-mul-g
+mul-g : tie.Need-overflow_mul-g
 mul-g c = search rules
 
-sub-g : tie.Need-overflow-sub-g
+sub-g : tie.Need-overflow_sub-g
 sub-g c = search rules
 
-mul-g-2 : tie.Need-overflow-mul-g-2
+mul-g-2 : tie.Need-overflow_mul-g-2
 mul-g-2 c = omega (arith, bounded c)
 
-add-g : tie.Need-overflow-add-g
+add-g : tie.Need-overflow_add-g
 add-g c = omega (arith, bounded c)
 
-div-result : tie.Need-nonzero-div-result
+div-result : tie.Need-nonzero_div-result
 div-result c = search rules
 
-add-result : tie.Need-overflow-add-result
+add-result : tie.Need-overflow_add-result
 add-result c = omega (arith, bounded c, quotient c)
 
-mul-result : tie.Need-overflow-mul-result
+mul-result : tie.Need-overflow_mul-result
 mul-result c = omega (arith, bounded c, quotient c)
 
 returns : tie.Need-returns
 returns c = record { some = omega arith; small = omega (arith, bounded c, quotient c) }
 
-pub guess-spec : {M : Type 1} → statement M
-guess-spec =
+pub guess_spec : {M : Type 1} → statement M
+guess_spec =
     tie.close (tie.spec mul-g sub-g mul-g-2 add-g div-result add-result mul-result returns)

@@ -5,44 +5,44 @@ use Rattle.rounding.proofs.root.root.Statement.{statement}
 use Rattle.rounding.proofs.root.root.Tie as tie
 
 -- the trial
-abbrev trial : tie.After-guess → ℕ
-trial c = (c.guess.result + c.before.args.n / c.guess.result) / 2 % 0x1000_0000
+abbrev trial : tie.After-guess-g → ℕ
+trial c = (c.guess-g.result + c.args.n / c.guess-g.result) / 2 % 0x1000_0000
 
-square : (c : tie.After-guess) → trial c * trial c ≤ 2 ^ 56
+square : (c : tie.After-guess-g) → trial c * trial c ≤ 2 ^ 56
 square c = square_fits (trial c) (omega arith)
 
-guess-requires : tie.Need-guess-requires
+guess-requires : tie.Need-guess-g-requires
 guess-requires c κs = search rules
 
-div-r : tie.Need-nonzero-div-r
-div-r c = c.guess.ensures.some
+div-r : tie.Need-nonzero_div-r
+div-r c = c.guess-g.ensures.some
 
-add_r : tie.Need-overflow-add-r
-add_r c = omega (arith, div-le_self c.before.args.n c.guess.result)
+add_r : tie.Need-overflow_add-r
+add_r c = omega (arith, div-le_self c.args.n c.guess-g.result)
 
-mul-if1 : tie.Need-overflow-mul-if1
+mul-if1 : tie.Need-overflow_mul-r
 mul-if1 c = omega (arith, square c)
 
-add-if2 : tie.Need-overflow-add-if2
+add-if2 : tie.Need-overflow_add-r-then-r-n
 add-if2 c = omega arith
 
-add-if2-2 : tie.Need-overflow-add-if2-2
+add-if2-2 : tie.Need-overflow_add-r-then-r-n-2
 add-if2-2 c = omega arith
 
-mul-if2 : tie.Need-overflow-mul-if2
+mul-if2 : tie.Need-overflow_mul-r-then-r-n
 mul-if2 c = omega (arith, square c.before)
 
-returns : tie.Need-returns
-returns c = tested _ _ c.before.if1.true c.if2.true
+returns : tie.Need-returns-then-n-r
+returns c = tested _ _ c.if-r-n.true c.if-n-r.true
 
-root-from-requires : tie.Need-root-from-requires
-root-from-requires c κs = (c.before.before.requires, omega arith)
+root-from-requires : tie.Need-root_from-requires
+root-from-requires c κs = (c.requires, omega arith)
 
-returns-2 : tie.Need-returns-2
-returns-2 c = c.root-from.ensures
+returns-2 : tie.Need-returns
+returns-2 c = c.root_from.ensures
 
-pub root-spec : {M : Type 1} → statement M
-root-spec =
+pub root_spec : {M : Type 1} → statement M
+root_spec =
     tie.close
     (tie.spec
     guess-requires

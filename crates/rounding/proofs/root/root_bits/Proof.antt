@@ -42,66 +42,66 @@ fields c =
       some = omega (arith, k.wide);
     }
 
-sub-lead : tie.Need-overflow-sub-lead
+sub-lead : tie.Need-overflow_sub-lead
 sub-lead c = omega (arith, (known c).two)
 
-shl-lead : tie.Need-overflow-shl-lead
+shl-lead : tie.Need-overflow_shl-lead
 shl-lead c = omega (arith, (known c).short)
 
-sub-field : tie.Need-overflow-sub-field
+sub-field : tie.Need-overflow_sub-field
 sub-field c = omega (arith, (known c).two)
 
-shr-field : tie.Need-overflow-shr-field
+shr-field : tie.Need-overflow_shr-field
 shr-field c = omega (arith, (known c).short)
 
-sub-digits : tie.Need-overflow-sub-digits
+sub-digits : tie.Need-overflow_sub-digits
 sub-digits c = rw (lead c) (pow_pos (c.args.p - 1))
 
-root-of-requires : tie.Need-root-of-requires
+root-of-requires : tie.Need-root_of-requires
 root-of-requires c κs =
     let s = c.before in
     let t = fields s in
-    let z = ap (λ (x : ℕ). x * 2 ^ (s.args.p - 1)) c.if1.true in
+    let z = ap (λ (x : ℕ). x * 2 ^ (s.args.p - 1)) c.if-field-eq0.true in
     rw (digits s) (s.requires.0, (omega (arith, s.requires.1.0, t.whole), (omega (arith, t.small, t.twice), omega (arith, t.some))))
 
-add-root-of : tie.Need-overflow-add-root-of
+add-root-of : tie.Need-overflow_add-lead
 add-root-of c =
     let t = fields c.before in
     rw (digits c.before, lead c.before) (omega (arith, t.small, t.twice, t.room))
 
-sub-root-of : tie.Need-overflow-sub-root-of
+sub-root-of : tie.Need-overflow_sub-field-else-field-eq0
 sub-root-of c = search rules
 
-root-of-requires-2 : tie.Need-root-of-requires-2
+root-of-requires-2 : tie.Need-root_of-requires-else-field-eq0
 root-of-requires-2 c κs =
     let s = c.before in
     let t = fields s in
     rw (digits s, lead s) (s.requires.0, (omega (arith, pow_pos (s.args.p - 1)), (omega (arith, t.small, t.twice), omega (arith, t.field))))
 
-returns : tie.Need-returns
+returns : tie.Need-returns-then-field-eq0
 returns c = λ f u w.
     let s = c.before.before in
     let b = s.args.b in
     let p = s.args.p in
-    let r = c.root-of.result in
-    let h : Rooted f (root_of f (b % 2 ^ (p - 1) * 2 ^ 0) (2 ^ low f)) r = rw (digits s) at (c.root-of.ensures f u w) in
+    let r = c.root_of.result in
+    let h : Rooted f (root_of f (b % 2 ^ (p - 1) * 2 ^ 0) (2 ^ low f)) r = rw (digits s) at (c.root_of.ensures f u w) in
     let l : b < ones f * hid f = rw (u, w) s.requires.1.1 in
-    let z : b / hid f ≡ 0 = rw u c.before.if1.true in
+    let z : b / hid f ≡ 0 = rw u c.if-field-eq0.true in
     rw (sqrt_low f b s.requires.1.0 l z, u) (rw u at h)
 
-returns-2 : tie.Need-returns-2
+returns-2 : tie.Need-returns-else-field-eq0
 returns-2 c = λ f u w.
     let s = c.before.before in
     let b = s.args.b in
     let p = s.args.p in
-    let r = c.root-of2.result in
-    let h : Rooted f (root_of f ((2 ^ (p - 1) + b % 2 ^ (p - 1)) * 2 ^ (b / 2 ^ (p - 1) - 1)) (2 ^ low f)) r = rw (digits s, lead s) at (c.root-of2.ensures f u w) in
+    let r = c.root_of-else-field-eq0.result in
+    let h : Rooted f (root_of f ((2 ^ (p - 1) + b % 2 ^ (p - 1)) * 2 ^ (b / 2 ^ (p - 1) - 1)) (2 ^ low f)) r = rw (digits s, lead s) at (c.root_of-else-field-eq0.ensures f u w) in
     let l : b < ones f * hid f = rw (u, w) s.requires.1.1 in
-    let z : 0 < b / hid f = rw u (let n = c.before.if1.false in omega arith) in
+    let z : 0 < b / hid f = rw u (let n = c.if-field-eq0.false in omega arith) in
     rw (sqrt_mid f b l z, u) (rw u at h)
 
-pub root-bits-spec : {M : Type 1} → statement M
-root-bits-spec =
+pub root_bits_spec : {M : Type 1} → statement M
+root_bits_spec =
     tie.close
     (tie.spec
     sub-lead

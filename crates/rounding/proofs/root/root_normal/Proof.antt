@@ -22,28 +22,28 @@ fit b =
     let k : 0x80_0000 + b % 0x80_0000 ≤ 2 ^ 24 = omega arith in
     rw (shifted_is b) (mul-le-mul k (pow_mono h))
 
-add-v : tie.Need-overflow-add-v
+add-v : tie.Need-overflow_add-v
 add-v c = rw (and_mask c.args.b 23) (omega arith)
 
-sub-v : tie.Need-overflow-sub-v
+sub-v : tie.Need-overflow_sub-v
 sub-v c = rw (and_mask (c.args.b / 2 ^ 23) 1) (omega arith)
 
-shl-v : tie.Need-overflow-shl-v
+shl-v : tie.Need-overflow_shl-v
 shl-v c = search rules
 
-trial-requires : tie.Need-trial-requires
+trial-requires : tie.Need-trial-r-requires
 trial-requires c κs = search rules
 
-mul-square : tie.Need-overflow-mul-square
-mul-square c = omega (arith, square_fits c.trial.result c.trial.ensures)
+mul-square : tie.Need-overflow_mul-square
+mul-square c = omega (arith, square_fits c.trial-r.result c.trial-r.ensures)
 
-add-if1 : tie.Need-overflow-add-if1
-add-if1 c = omega (arith, fit c.before.args.b, c.trial.ensures)
+add-if1 : tie.Need-overflow_add-v-2
+add-if1 c = omega (arith, fit c.args.b, c.trial-r.ensures)
 
-add-if2 : tie.Need-overflow-add-if2
-add-if2 c = omega (arith, square_fits c.before.trial.result c.before.trial.ensures, c.before.trial.ensures)
+add-if2 : tie.Need-overflow_add-square
+add-if2 c = omega (arith, square_fits c.trial-r.result c.trial-r.ensures, c.trial-r.ensures)
 
-add-result : tie.Need-overflow-add-result
+add-result : tie.Need-overflow_add-result
 add-result c = search rules
 
 -- the field of the root's exponent, shifted to its place
@@ -53,22 +53,22 @@ placed b h =
     let e : (b / 2 ^ 23 + 125) / 2 ≡ halved binary32 (field binary32 b) = omega arith in
     shl_exact 9 23 64 l (omega arith) ∙ ap (λ (x : ℕ). x * 2 ^ 23) e
 
-add-result-2 : tie.Need-overflow-add-result-2
+add-result-2 : tie.Need-overflow_add-result-then-v-square
 add-result-2 c = search rules
 
-returns : tie.Need-returns
+returns : tie.Need-returns-then-v-square
 returns c =
-    let s = c.before.before.before in
+    let s = c in
     let b = s.args.b in
-    let r = c.before.before.trial.result in
-    let p : Passes (digits binary32 b) r = record { under = rw (shifted_is b) at c.before.if1.true; over = rw (shifted_is b) at c.if2.true } in
+    let r = c.trial-r.result in
+    let p : Passes (digits binary32 b) r = record { under = rw (shifted_is b) at c.if-square-v.true; over = rw (shifted_is b) at c.if-v-square.true } in
     rw (placed b s.requires.1) (right binary32 b r s.requires.0 s.requires.1 p)
 
-root-bits-requires : tie.Need-root-bits-requires
-root-bits-requires c κs = let s = c.before.before in (record { format = binary32; digits = refl; largest = refl }, (omega (arith, s.requires.0), s.requires.1))
+root-bits-requires : tie.Need-root_bits-requires
+root-bits-requires c κs = let s = c in (record { format = binary32; digits = refl; largest = refl }, (omega (arith, s.requires.0), s.requires.1))
 
-returns-2 : tie.Need-returns-2
-returns-2 c = c.root-bits.ensures binary32 refl refl
+returns-2 : tie.Need-returns
+returns-2 c = c.root_bits.ensures binary32 refl refl
 
-pub root-normal-spec : {M : Type 1} → statement M
-root-normal-spec = tie.close (tie.spec add-v sub-v shl-v trial-requires mul-square add-if1 add-if2 add-result add-result-2 returns root-bits-requires returns-2)
+pub root_normal_spec : {M : Type 1} → statement M
+root_normal_spec = tie.close (tie.spec add-v sub-v shl-v trial-requires mul-square add-if1 add-if2 add-result add-result-2 returns root-bits-requires returns-2)

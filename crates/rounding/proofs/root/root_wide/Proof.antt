@@ -4,59 +4,59 @@ use Rattle.rounding.proofs.Halves.{Upper, upper, Lower, lower, takes, skips}
 use Rattle.rounding.proofs.root.root_wide.Statement.{statement}
 use Rattle.rounding.proofs.root.root_wide.Tie as tie
 
-up : (c : tie.After-root) → Upper c.before.args.h c.root.result
-up c = upper _ _ c.before.requires.0 c.before.requires.1 c.root.ensures
+up : (c : tie.After-root-s) → Upper c.args.h c.root-s.result
+up c = upper _ _ c.requires.0 c.requires.1 c.root-s.ensures
 
-abbrev Down : tie.After-root → Type 0
+abbrev Down : tie.After-root-s → Type 0
 Down c =
-    let h = c.before.args.h in
-    let s = c.root.result in
+    let h = c.args.h in
+    let s = c.root-s.result in
     Lower h s ((h - s * s) * 2 ^ 26 / s) ((h - s * s) * 2 ^ 26 % s)
 
-down : (c : tie.After-root) → Down c
+down : (c : tie.After-root-s) → Down c
 down c = lower _ _ (up c)
 
-root-requires : tie.Need-root-requires
+root-requires : tie.Need-root-s-requires
 root-requires c κs = search rules
 
-mul_left : tie.Need-overflow-mul-left
+mul_left : tie.Need-overflow_mul-left
 mul_left c = search rules
 
-sub-left : tie.Need-overflow-sub-left
+sub-left : tie.Need-overflow_sub-left
 sub-left c = search rules
 
-mul-left-2 : tie.Need-overflow-mul-left-2
+mul-left-2 : tie.Need-overflow_mul-left-2
 mul-left-2 c = let u = up c in omega arith
 
-div-q : tie.Need-nonzero-div-q
+div-q : tie.Need-nonzero_div-q
 div-q c = let u = up c in omega arith
 
-rem-rest : tie.Need-nonzero-rem-rest
+rem-rest : tie.Need-nonzero_rem-rest
 rem-rest c = let u = up c in omega arith
 
-mul-rest : tie.Need-overflow-mul-rest
+mul-rest : tie.Need-overflow_mul-rest
 mul-rest c = let u = up c in let d = down c in omega arith
 
-mul-r : tie.Need-overflow-mul-r
+mul-r : tie.Need-overflow_mul-r
 mul-r c = let u = up c in omega arith
 
-add_r : tie.Need-overflow-add-r
+add_r : tie.Need-overflow_add-r
 add_r c = let u = up c in let d = down c in omega arith
 
-mul-if1 : tie.Need-overflow-mul-if1
+mul-if1 : tie.Need-overflow_mul-q
 mul-if1 c = let d = down c in omega arith
 
-sub-result : tie.Need-overflow-sub-result
+sub-result : tie.Need-overflow_sub-result
 sub-result c = let u = up c.before in omega arith
 
-returns : tie.Need-returns
-returns c = skips _ _ _ _ (up c.before) (down c.before) c.if1.true
+returns : tie.Need-returns-then-rest-q
+returns c = skips _ _ _ _ (up c.before) (down c.before) c.if-rest-q.true
 
-returns-2 : tie.Need-returns-2
-returns-2 c = takes _ _ _ _ (up c.before) (down c.before) c.if1.false
+returns-2 : tie.Need-returns-else-rest-q
+returns-2 c = takes _ _ _ _ (up c.before) (down c.before) c.if-rest-q.false
 
-pub root-wide-spec : {M : Type 1} → statement M
-root-wide-spec =
+pub root_wide_spec : {M : Type 1} → statement M
+root_wide_spec =
     tie.close
     (tie.spec
     root-requires

@@ -9,46 +9,46 @@ use Rattle.rounding.proofs.whole.whole64.Tie as tie
 
 -- what owning the float tells: the format holds it
 held : (c : tie.Start) → T (fits binary64 c.args.x)
-held c = subst T (sym c.well-formed.0.1) tt
+held c = subst T (sym c.well_formed.0.1) tt
 
 masked : (x : Float) → bit_and (to_bits binary64 x) (2 ^ 63 - 1) ≡ sized binary64 x
 masked x = and_mask (to_bits binary64 x) 63
 
 -- neither a NaN nor an infinity
-within : (c : tie.Else2) → sized binary64 c.before.before.args.x < ones binary64 * hid binary64
+within : (c : tie.Else-size-eq9218868437227405312) → sized binary64 c.args.x < ones binary64 * hid binary64
 within c =
-    let x = c.before.before.args.x in
-    sized_lt binary64 x (held c.before.before) (no_nan x c.before.if1.false) (λ e. c.if2.false (masked x ∙ e))
+    let x = c.args.x in
+    sized_lt binary64 x (held c.before.before) (no_nan x c.if-x.false) (λ e. c.if-size-eq9218868437227405312.false (masked x ∙ e))
 
-returns : tie.Need-returns
-returns c = nan_whole binary64 _ c.before.args.x c.if1.true
+returns : tie.Need-returns-then-x
+returns c = nan_whole binary64 _ c.args.x c.if-x.true
 
-float-to-bits-b : tie.Need-float-to-bits-b
-float-to-bits-b c = no_nan c.before.args.x c.if1.false
+float-to-bits-b : tie.Need-float_to_bits-b
+float-to-bits-b c = no_nan c.args.x c.if-x.false
 
-returns-2 : tie.Need-returns-2
-returns-2 c = inf_whole binary64 _ c.before.before.args.x (held c.before.before) (sym (masked c.before.before.args.x) ∙ c.if2.true)
+returns-2 : tie.Need-returns-then-size-eq9218868437227405312
+returns-2 c = inf_whole binary64 _ c.args.x (held c.before.before) (sym (masked c.args.x) ∙ c.if-size-eq9218868437227405312.true)
 
-way-by-requires : tie.Need-way-by-requires
+way-by-requires : tie.Need-way_by-requires
 way-by-requires c κs = search rules
 
-whole-bits-requires : tie.Need-whole-bits-requires
-whole-bits-requires c κs = (record { format = binary64; digits = refl; largest = refl }, rw (masked c.before.before.before.args.x) (within c.before))
+whole-bits-requires : tie.Need-whole_bits-r-requires
+whole-bits-requires c κs = (record { format = binary64; digits = refl; largest = refl }, rw (masked c.args.x) (within c.before))
 
-add-result : tie.Need-overflow-add-result
-add-result c = omega (arith, (c.whole-bits.ensures binary64 false refl refl).finite, and_le_r (to_bits binary64 c.before.before.before.before.args.x) (2 ^ 63))
+add-result : tie.Need-overflow_add-result
+add-result c = omega (arith, (c.whole_bits-r.ensures binary64 false refl refl).finite, and_le_r (to_bits binary64 c.args.x) (2 ^ 63))
 
-float-from-bits-result : tie.Need-float-from-bits-result
+float-from-bits-result : tie.Need-float_from_bits-result
 float-from-bits-result c =
     let s = c.before.before.before.before in
-    no_nan_signed binary64 s.args.x c.whole-bits.result (held s) (c.whole-bits.ensures binary64 false refl refl).finite
+    no_nan_signed binary64 s.args.x c.whole_bits-r.result (held s) (c.whole_bits-r.ensures binary64 false refl refl).finite
 
-returns-3 : tie.Need-returns-3
+returns-3 : tie.Need-returns
 returns-3 c =
     let s = c.before.before.before.before in
-    let way = c.before.Way-by in
-    signed_by binary64 s.args.x (held s) s.args.plus s.args.minus way.result c.whole-bits.result (within c.before.before)
-    way.ensures (λ (g : Bool). rw (masked s.args.x) at (c.whole-bits.ensures binary64 g refl refl))
+    let way = c.way_by in
+    signed_by binary64 s.args.x (held s) s.args.plus s.args.minus way.result c.whole_bits-r.result (within c.before.before)
+    way.ensures (λ (g : Bool). rw (masked s.args.x) at (c.whole_bits-r.ensures binary64 g refl refl))
 
-pub whole64-spec : {M : Type 1} → statement M
-whole64-spec = tie.close (tie.spec returns float-to-bits-b returns-2 way-by-requires whole-bits-requires add-result float-from-bits-result returns-3)
+pub whole64_spec : {M : Type 1} → statement M
+whole64_spec = tie.close (tie.spec returns float-to-bits-b returns-2 way-by-requires whole-bits-requires add-result float-from-bits-result returns-3)

@@ -28,28 +28,28 @@ room p e x k h =
 abbrev below : ℕ → ℕ → ℕ → ℕ
 below p e b = e + p - 1 - b / 2 ^ (p - 1)
 
-unit : (c : tie.Else2) →
-    let start = c.before.before in
+unit : (c : tie.Else-field-e-2) →
+    let start = c in
     (1 * 2 ^ below start.args.p start.args.e start.args.b) % 2 ^ 64 ≡ 2 ^ below start.args.p start.args.e start.args.b
 unit c =
     let s = c.before.before in
     let i = below s.args.p s.args.e s.args.b in
-    shl_exact {a = 1} 1 i 64 (lit< tt) (let k = known s in omega (arith, k.short, c.if2.false)) ∙ one-mul (2 ^ i)
+    shl_exact {a = 1} 1 i 64 (lit< tt) (let k = known s in omega (arith, k.short, c.if-field-e-2.false)) ∙ one-mul (2 ^ i)
 
-unit_ge : (c : tie.Else2) → 2 ≤ 2 ^ below c.before.before.args.p c.before.before.args.e c.before.before.args.b
+unit_ge : (c : tie.Else-field-e-2) → 2 ≤ 2 ^ below c.args.p c.args.e c.args.b
 unit_ge c =
-    let s = c.before.before in
-    let h : 1 ≤ below s.args.p s.args.e s.args.b = omega (arith, c.before.if1.false) in
+    let s = c in
+    let h : 1 ≤ below s.args.p s.args.e s.args.b = omega (arith, c.if-field-e.false) in
     pow_mono h
 
 step_is : (c : tie.After-step) →
-    let start = c.before.before.before in
+    let start = c in
     c.step.result ≡ addend_of (way_of start.args.way) (2 ^ below start.args.p start.args.e start.args.b)
-step_is c = c.step.ensures ∙ ap (λ (x : ℕ). addend_of (way_of c.before.before.before.args.way) x) (unit c.before)
+step_is c = c.step.ensures ∙ ap (λ (x : ℕ). addend_of (way_of c.args.way) x) (unit c.before)
 
 -- the bits from which on a number below one goes to one
 bound : (f : Format) (c : tie.After-limit) →
-    let start = c.before.before.before in
+    let start = c in
     prec f ≡ start.args.p → emax f ≡ start.args.e →
     c.limit.result ≡ limit_of (way_of start.args.way) ((emax f - 1) * hid f) (emax f * hid f)
 bound f c u w =
@@ -60,38 +60,38 @@ bound f c u w =
 masked : (b s i u : ℕ) → u ≡ 2 ^ i → b + s - bit_and (b + s) (u - 1) ≡ b + s - (b + s) % 2 ^ i
 masked b s i u e = ap (λ (x : ℕ). b + s - bit_and (b + s) (x - 1)) e ∙ ap (λ (x : ℕ). b + s - x) (and_mask (b + s) i)
 
-sub-lead : tie.Need-overflow-sub-lead
+sub-lead : tie.Need-overflow_sub-lead
 sub-lead c = omega (arith, (known c).two)
 
-shl-lead : tie.Need-overflow-shl-lead
+shl-lead : tie.Need-overflow_shl-lead
 shl-lead c = omega (arith, (known c).short)
 
-sub-field : tie.Need-overflow-sub-field
+sub-field : tie.Need-overflow_sub-field
 sub-field c = omega (arith, (known c).two)
 
-shr-field : tie.Need-overflow-shr-field
+shr-field : tie.Need-overflow_shr-field
 shr-field c = omega (arith, (known c).short)
 
-add-if1 : tie.Need-overflow-add-if1
+add-if1 : tie.Need-overflow_add-e
 add-if1 c = omega (arith, (known c).short, (known c).far)
 
-sub-if1 : tie.Need-overflow-sub-if1
+sub-if1 : tie.Need-overflow_sub-e
 sub-if1 c = omega (arith, (known c).two)
 
-returns : tie.Need-returns
+returns : tie.Need-returns-then-field-e
 returns c = λ f s u w.
-    let t = c.before in
-    unchanged f s (way_of t.args.way) t.args.b (rw (u, w) t.requires.1) (rw (u, w) c.if1.true)
+    let t = c in
+    unchanged f s (way_of t.args.way) t.args.b (rw (u, w) t.requires.1) (rw (u, w) c.if-field-e.true)
 
-sub-limit : tie.Need-overflow-sub-limit
+sub-limit : tie.Need-overflow_sub-e-then-field-e-2
 sub-limit c = search rules
 
-mul-limit : tie.Need-overflow-mul-limit
+mul-limit : tie.Need-overflow_mul-e
 mul-limit c =
     let s = c.before.before in
     rw (lead s) (record { fits = room s.args.p s.args.e (s.args.e - 1) (known s) (omega arith) })
 
-mul-limit-2 : tie.Need-overflow-mul-limit-2
+mul-limit-2 : tie.Need-overflow_mul-e-then-field-e-2
 mul-limit-2 c =
     let s = c.before.before in
     rw (lead s) (record { fits = room s.args.p s.args.e s.args.e (known s) (omega arith) })
@@ -99,82 +99,82 @@ mul-limit-2 c =
 limit-requires : tie.Need-limit-requires
 limit-requires c κs = search rules
 
-returns-2 : tie.Need-returns-2
+returns-2 : tie.Need-returns-then-b-limit
 returns-2 c = λ f s u w.
-    let t = c.before.before.before.before in
+    let t = c in
     let b = t.args.b in
-    let l : b / hid f < emax f = rw (u, w) c.before.before.if2.true in
-    stays f s (way_of t.args.way) b l (moves_at f (way_of t.args.way) b l ∙ lt-leb _ b (subst (λ (x : ℕ). b < x) (bound f c.before u w) c.if3.true))
+    let l : b / hid f < emax f = rw (u, w) c.if-field-e-2.true in
+    stays f s (way_of t.args.way) b l (moves_at f (way_of t.args.way) b l ∙ lt-leb _ b (subst (λ (x : ℕ). b < x) (bound f c.before u w) c.if-b-limit.true))
 
-mul-result : tie.Need-overflow-mul-result
+mul-result : tie.Need-overflow_mul-result
 mul-result c =
     let s = c.before.before.before.before in
     rw (lead s) (record { fits = room s.args.p s.args.e s.args.e (known s) (omega arith) })
 
-returns-3 : tie.Need-returns-3
+returns-3 : tie.Need-returns-then-field-e-2
 returns-3 c = λ f s u w.
     let t = c.before.before.before.before in
     let b = t.args.b in
-    let l : b / hid f < emax f = rw (u, w) c.before.before.if2.true in
+    let l : b / hid f < emax f = rw (u, w) c.if-field-e-2.true in
     let r : t.args.e * ((1 * 2 ^ (t.args.p - 1)) % 2 ^ 64) ≡ emax f * hid f = rw (lead t, u, w) refl in
     subst (λ (x : ℕ). Wholes f s (way_of t.args.way) b x) (sym r)
-    (rises f s (way_of t.args.way) b l (moves_at f (way_of t.args.way) b l ∙ le-leb _ b (subst (λ (x : ℕ). x ≤ b) (bound f c.before u w) c.if3.false)))
+    (rises f s (way_of t.args.way) b l (moves_at f (way_of t.args.way) b l ∙ le-leb _ b (subst (λ (x : ℕ). x ≤ b) (bound f c.before u w) c.if-b-limit.false)))
 
-add-unit : tie.Need-overflow-add-unit
+add-unit : tie.Need-overflow_add-unit
 add-unit c = let k = known c.before.before in omega (arith, k.short, k.far)
 
-sub-unit : tie.Need-overflow-sub-unit
+sub-unit : tie.Need-overflow_sub-unit
 sub-unit c = search rules
 
-sub-unit-2 : tie.Need-overflow-sub-unit-2
+sub-unit-2 : tie.Need-overflow_sub-unit-2
 sub-unit-2 c = search rules
 
-shl-unit : tie.Need-overflow-shl-unit
-shl-unit c = let k = known c.before.before in omega (arith, k.short, c.if2.false)
+shl-unit : tie.Need-overflow_shl-unit
+shl-unit c = let k = known c.before.before in omega (arith, k.short, c.if-field-e-2.false)
 
 step-requires : tie.Need-step-requires
 step-requires c κs = rw (unit c) (unit_ge c)
 
-add-t : tie.Need-overflow-add-t
+add-t : tie.Need-overflow_add-t
 add-t c =
     let t = c.before.before.before in
     let k = known t in
     let i = below t.args.p t.args.e t.args.b in
     let e = step_is c in
     let l = step_lt (way_of t.args.way) (2 ^ i) (unit_ge c.before) in
-    let w : i ≤ 53 = omega (arith, k.short, c.before.if2.false) in
+    let w : i ≤ 53 = omega (arith, k.short, c.if-field-e-2.false) in
     let m : 2 ^ i ≤ 2 ^ 53 = pow_mono w in
     let v : t.args.p - 1 ≤ 52 = omega (arith, k.short) in
     let a : 2 * t.args.e + 1 ≤ 2047 = omega (arith, k.far) in
     let n : (2 * t.args.e + 1) * 2 ^ (t.args.p - 1) ≤ 2047 * 2 ^ 52 = mul-le-mul a (pow_mono v) in
     omega (arith, t.requires.1)
 
-sub-result : tie.Need-overflow-sub-result
+sub-result : tie.Need-overflow_sub-result
 sub-result c =
-    let start = c.before.before.before in
+    let start = c in
     rw (unit c.before) (pow_pos (below start.args.p start.args.e start.args.b))
 
-sub-result-2 : tie.Need-overflow-sub-result-2
+sub-result-2 : tie.Need-overflow_sub-result-2
 sub-result-2 c = and_le_l _ _
 
-returns-4 : tie.Need-returns-4
+returns-4 : tie.Need-returns
 returns-4 c = λ f s u w.
-    let t = c.before.before.before in
+    let t = c in
     let b = t.args.b in
     let y = way_of t.args.way in
     let i = below t.args.p t.args.e b in
     let j = emax f + prec f - 1 - b / hid f in
     let ji : i ≡ j = rw (u, w) refl in
-    let g : emax f ≤ b / hid f = rw (u, w) c.before.if2.false in
-    let h : b / hid f < emax f + prec f - 1 = rw (u, w) c.before.before.if1.false in
+    let g : emax f ≤ b / hid f = rw (u, w) c.if-field-e-2.false in
+    let h : b / hid f < emax f + prec f - 1 = rw (u, w) c.if-field-e.false in
     let l : b < ones f * hid f = rw (u, w) t.requires.1 in
     let r : b + c.step.result - bit_and (b + c.step.result) ((1 * 2 ^ i) % 2 ^ 64 - 1) ≡ b + addend_of y (2 ^ j) - (b + addend_of y (2 ^ j)) % 2 ^ j =
     masked b c.step.result i ((1 * 2 ^ i) % 2 ^ 64) (unit c.before) ∙ ap (λ (x : ℕ). b + x - (b + x) % 2 ^ i) (step_is c)
     ∙ ap (λ (x : ℕ). b + addend_of y (2 ^ x) - (b + addend_of y (2 ^ x)) % 2 ^ x) ji in
     subst (λ (x : ℕ). Wholes f s y b x) (sym r) (cut f s y b l g h)
 
-pub whole-bits-spec : {M : Type 1} → statement M
-whole-bits-spec =
+pub whole_bits_spec : {M : Type 1} → statement M
+whole_bits_spec =
     tie.close
     (tie.spec
     sub-lead

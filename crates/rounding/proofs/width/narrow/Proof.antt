@@ -11,23 +11,23 @@ use Rattle.rounding.proofs.width.narrow.Tie as tie
 
 -- what owning the float tells: the format holds it
 held : (c : tie.Start) → T (fits binary64 c.args.x)
-held c = subst T (sym c.well-formed.0.1) tt
+held c = subst T (sym c.well_formed.0.1) tt
 
 masked : (x : Float) → bit_and (to_bits binary64 x) (2 ^ 63 - 1) ≡ sized binary64 x
 masked x = and_mask (to_bits binary64 x) 63
 
 -- neither a NaN nor an infinity
-within : (c : tie.Else2) → sized binary64 c.before.before.args.x < ones binary64 * hid binary64
+within : (c : tie.Else-size-eq9218868437227405312) → sized binary64 c.args.x < ones binary64 * hid binary64
 within c =
-    let x = c.before.before.args.x in
-    sized_lt binary64 x (held c.before.before) (no_nan x c.before.if1.false) (λ e. c.if2.false (masked x ∙ e))
+    let x = c.args.x in
+    sized_lt binary64 x (held c.before.before) (no_nan x c.if-x.false) (λ e. c.if-size-eq9218868437227405312.false (masked x ∙ e))
 
-returns : tie.Need-returns
+returns : tie.Need-returns-then-x
 unfolding div of_bits
-returns c = nan_thin c.before.args.x c.if1.true
+returns c = nan_thin c.args.x c.if-x.true
 
-float-to-bits-b : tie.Need-float-to-bits-b
-float-to-bits-b c = no_nan c.before.args.x c.if1.false
+float-to-bits-b : tie.Need-float_to_bits-b
+float-to-bits-b c = no_nan c.args.x c.if-x.false
 
 -- the sign, and with it the bits up to the infinity's, which are no NaN's
 sign : (c : tie.Start) → Bool
@@ -46,40 +46,40 @@ placed_le c = rw (placed_is c) (sign_le binary32 (sign c))
 plain : (c : tie.Start) (r : ℕ) → r ≤ ones binary32 * hid binary32 → T (not (nan_bits binary32 (placed c + r)))
 plain c r h = subst (λ (y : ℕ). T (not (nan_bits binary32 (y + r)))) (sym (placed_is c)) (no_nan_most binary32 (sign c) r h (omega arith))
 
-add-result : tie.Need-overflow-add-result
+add-result : tie.Need-overflow_add-result
 add-result c = omega (arith, placed_le c.before.before)
 
-cast-result : tie.Need-overflow-cast-result
+cast-result : tie.Need-overflow_cast-result
 cast-result c = omega (arith, placed_le c.before.before)
 
-float-from-bits-result : tie.Need-float-from-bits-result
+float-from-bits-result : tie.Need-float_from_bits-result
 float-from-bits-result c = plain c.before.before 0x7f80_0000 (omega arith)
 
-returns-2 : tie.Need-returns-2
+returns-2 : tie.Need-returns-then-size-eq9218868437227405312
 unfolding sign
 returns-2 c =
     let s = c.before.before in
-    ap (λ (y : ℕ). of_bits binary32 (y + 0x7f80_0000)) (placed_is s) ∙ inf_signed binary32 (sign s) ∙ inf_thin s.args.x (sign s) (held s) (sym (masked s.args.x) ∙ c.if2.true) refl
+    ap (λ (y : ℕ). of_bits binary32 (y + 0x7f80_0000)) (placed_is s) ∙ inf_signed binary32 (sign s) ∙ inf_thin s.args.x (sign s) (held s) (sym (masked s.args.x) ∙ c.if-size-eq9218868437227405312.true) refl
 
-narrow-bits-requires : tie.Need-narrow-bits-requires
-narrow-bits-requires c κs = rw (masked c.before.before.args.x) (within c)
+narrow-bits-requires : tie.Need-narrow_bits-requires
+narrow-bits-requires c κs = rw (masked c.args.x) (within c)
 
-add-result-2 : tie.Need-overflow-add-result-2
-add-result-2 c = omega (arith, placed_le c.before.before.before, (c.narrow-bits.ensures false).most)
+add-result-2 : tie.Need-overflow_add-result-2
+add-result-2 c = omega (arith, placed_le c.before.before.before, (c.narrow_bits.ensures false).most)
 
-cast-result-2 : tie.Need-overflow-cast-result-2
-cast-result-2 c = omega (arith, placed_le c.before.before.before, (c.narrow-bits.ensures false).most)
+cast-result-2 : tie.Need-overflow_cast-result-2
+cast-result-2 c = omega (arith, placed_le c.before.before.before, (c.narrow_bits.ensures false).most)
 
-float-from-bits-result-2 : tie.Need-float-from-bits-result-2
-float-from-bits-result-2 c = plain c.before.before.before c.narrow-bits.result (c.narrow-bits.ensures false).most
+float-from-bits-result-2 : tie.Need-float_from_bits-result-2
+float-from-bits-result-2 c = plain c.before.before.before c.narrow_bits.result (c.narrow_bits.ensures false).most
 
-returns-3 : tie.Need-returns-3
+returns-3 : tie.Need-returns
 unfolding sign
 returns-3 c =
     let s = c.before.before.before in
-    let r = c.narrow-bits.result in
+    let r = c.narrow_bits.result in
     ap (λ (y : ℕ). of_bits binary32 (y + r)) (placed_is s)
-    ∙ signed_thin s.args.x (sign s) r (held s) (within c.before) refl (rw (masked s.args.x) at (c.narrow-bits.ensures (sign s)))
+    ∙ signed_thin s.args.x (sign s) r (held s) (within c.before) refl (rw (masked s.args.x) at (c.narrow_bits.ensures (sign s)))
 
-pub narrow-spec : {M : Type 1} → statement M
-narrow-spec = tie.close (tie.spec returns float-to-bits-b add-result cast-result float-from-bits-result returns-2 narrow-bits-requires add-result-2 cast-result-2 float-from-bits-result-2 returns-3)
+pub narrow_spec : {M : Type 1} → statement M
+narrow_spec = tie.close (tie.spec returns float-to-bits-b add-result cast-result float-from-bits-result returns-2 narrow-bits-requires add-result-2 cast-result-2 float-from-bits-result-2 returns-3)

@@ -56,73 +56,73 @@ placed b h =
     let e : b / 2 ^ 52 - 897 ≡ shift b - 896 = omega arith in
     shl_exact 11 23 64 l (omega arith) ∙ ap (λ (x : ℕ). x * 2 ^ 23) e
 
-add-q : tie.Need-overflow-add-q
+add-q : tie.Need-overflow_add-q
 add-q c = omega (arith, read_lt c.args.b)
 
-nearest-even-requires : tie.Need-nearest-even-requires
-nearest-even-requires c κs = (read_lt c.before.args.b, (omega arith, omega arith))
+nearest-even-requires : tie.Need-nearest_even-requires
+nearest-even-requires c κs = (read_lt c.args.b, (omega arith, omega arith))
 
-kept : (c : tie.After-nearest-even) → c.nearest-even.result ≡ closest (digits c.before.before.args.b) (2 ^ 29)
+kept : (c : tie.After-nearest_even) → c.nearest_even.result ≡ closest (digits c.args.b) (2 ^ 29)
 kept c =
-    let b = c.before.before.args.b in
-    let h : 1 ≤ b / 2 ^ 52 = omega (arith, c.before.if1.true) in
-    c.nearest-even.ensures ∙ ap (λ (x : ℕ). closest x (2 ^ 29)) (read_is b h)
+    let b = c.args.b in
+    let h : 1 ≤ b / 2 ^ 52 = omega (arith, c.if-field-ge897.true) in
+    c.nearest_even.ensures ∙ ap (λ (x : ℕ). closest x (2 ^ 29)) (read_is b h)
 
 -- the result before its overflow is looked at
-abbrev total : tie.After-nearest-even → ℕ
-total c = (c.before.before.args.b / 2 ^ 52 - 897) * 2 ^ 23 % 2 ^ 64 + c.nearest-even.result
+abbrev total : tie.After-nearest_even → ℕ
+total c = (c.args.b / 2 ^ 52 - 897) * 2 ^ 23 % 2 ^ 64 + c.nearest_even.result
 
-total_is : (c : tie.After-nearest-even) → total c ≡ (shift c.before.before.args.b - 896) * 2 ^ 23 + closest (digits c.before.before.args.b) (2 ^ 29)
-total_is c = ap₂ (λ (x y : ℕ). x + y) (placed c.before.before.args.b c.before.before.requires) (kept c)
+total_is : (c : tie.After-nearest_even) → total c ≡ (shift c.args.b - 896) * 2 ^ 23 + closest (digits c.args.b) (2 ^ 29)
+total_is c = ap₂ (λ (x y : ℕ). x + y) (placed c.args.b c.requires) (kept c)
 
-add-t : tie.Need-overflow-add-t
+add-t : tie.Need-overflow_add-t
 add-t c =
-    let b = c.before.before.args.b in
+    let b = c.args.b in
     let m = kept_le (digits b) 29 (omega arith) (short b) in
-    omega (arith, total_is c, m, c.before.before.requires)
+    omega (arith, total_is c, m, c.requires)
 
-returns : tie.Need-returns
+returns : tie.Need-returns-then-t-gt2139095040
 returns c = λ s.
-    let b = c.before.before.before.args.b in
+    let b = c.args.b in
     let r = total_is c.before in
-    let g : 896 ≤ shift b = omega (arith, c.before.before.if1.true) in
-    record { value = high s b g ∙ ap (λ (x : ℕ). cond s (top binary32) 0 + x) (omega (arith, c.if2.true)); most = omega arith }
+    let g : 896 ≤ shift b = omega (arith, c.if-field-ge897.true) in
+    record { value = high s b g ∙ ap (λ (x : ℕ). cond s (top binary32) 0 + x) (omega (arith, c.if-t-gt2139095040.true)); most = omega arith }
 
-returns-2 : tie.Need-returns-2
+returns-2 : tie.Need-returns-then-field-ge897
 returns-2 c = λ s.
-    let b = c.before.before.before.args.b in
+    let b = c.args.b in
     let r = total_is c.before in
-    let g : 896 ≤ shift b = omega (arith, c.before.before.if1.true) in
-    record { value = high s b g ∙ ap (λ (x : ℕ). cond s (top binary32) 0 + x) (omega (arith, c.if2.false)); most = omega (arith, c.if2.false) }
+    let g : 896 ≤ shift b = omega (arith, c.if-field-ge897.true) in
+    record { value = high s b g ∙ ap (λ (x : ℕ). cond s (top binary32) 0 + x) (omega (arith, c.if-t-gt2139095040.false)); most = omega (arith, c.if-t-gt2139095040.false) }
 
-sub-nearest-even : tie.Need-overflow-sub-nearest-even
+sub-nearest-even : tie.Need-overflow_sub-field
 sub-nearest-even c = search rules
 
-nearest-even-requires-2 : tie.Need-nearest-even-requires-2
-nearest-even-requires-2 c κs = (read_lt c.before.before.args.b, (omega arith, omega (arith, c.if3.true)))
+nearest-even-requires-2 : tie.Need-nearest_even-requires-then-field-ge863
+nearest-even-requires-2 c κs = (read_lt c.args.b, (omega arith, omega (arith, c.if-field-ge863.true)))
 
-returns-3 : tie.Need-returns-3
+returns-3 : tie.Need-returns-then-field-ge863
 returns-3 c = λ s.
-    let b = c.before.before.before.args.b in
-    let f = c.before.if3.true in
-    let g : shift b < 896 = omega (arith, c.before.before.if1.false) in
+    let b = c.args.b in
+    let f = c.if-field-ge863.true in
+    let g : shift b < 896 = omega (arith, c.if-field-ge897.false) in
     let h : 1 ≤ b / 2 ^ 52 = omega (arith, f) in
     let e : 926 - b / 2 ^ 52 ≡ 925 - shift b = omega arith in
-    let r : c.nearest-even2.result ≡ closest (digits b) (2 ^ (925 - shift b)) = c.nearest-even2.ensures ∙ ap₂ (λ (x y : ℕ). closest x (2 ^ y)) (read_is b h) e in
+    let r : c.nearest_even-then-field-ge863.result ≡ closest (digits b) (2 ^ (925 - shift b)) = c.nearest_even-then-field-ge863.ensures ∙ ap₂ (λ (x y : ℕ). closest x (2 ^ y)) (read_is b h) e in
     let m = kept_le (digits b) (925 - shift b) (omega arith) (short b) in
     record { value = small s b g ∙ ap (λ (x : ℕ). cond s (top binary32) 0 + x) (sym r); most = omega arith }
 
-returns-4 : tie.Need-returns-4
+returns-4 : tie.Need-returns
 returns-4 c = λ s.
-    let b = c.before.before.args.b in
-    let g : shift b < 862 = omega (arith, c.if3.false) in
+    let b = c.args.b in
+    let g : shift b < 862 = omega (arith, c.if-field-ge863.false) in
     let k : 54 ≤ 925 - shift b = omega arith in
     let p : 2 ^ 54 ≤ 2 ^ (925 - shift b) = pow_mono k in
     let z = short b in
     record { value = small s b (omega arith) ∙ ap (λ (x : ℕ). cond s (top binary32) 0 + x) (closest_none (digits b) (2 ^ (925 - shift b)) (omega arith)); most = omega arith }
 
-pub narrow-bits-spec : {M : Type 1} → statement M
-narrow-bits-spec =
+pub narrow_bits_spec : {M : Type 1} → statement M
+narrow_bits_spec =
     tie.close
     (tie.spec
     add-q

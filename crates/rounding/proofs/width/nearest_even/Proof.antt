@@ -16,25 +16,25 @@ half_lt c = let h : c.args.s - 1 ≤ 62 = omega (arith, c.requires.1.1) in pow_m
 doubled : (i : ℕ) → 1 ≤ i → 2 ^ i ≡ 2 * 2 ^ (i - 1)
 doubled i h = let e : i ≡ suc (i - 1) = omega arith in ap (λ (k : ℕ). 2 ^ k) e ∙ pow-succ' 2 (i - 1)
 
-shr-odd : tie.Need-overflow-shr-odd
+shr-odd : tie.Need-overflow_shr-odd
 shr-odd c = search rules
 
-sub-result : tie.Need-overflow-sub-result
+sub-result : tie.Need-overflow_sub-result
 sub-result c = search rules
 
-shl-result : tie.Need-overflow-shl-result
+shl-result : tie.Need-overflow_shl-result
 shl-result c = search rules
 
-sub-result-2 : tie.Need-overflow-sub-result-2
+sub-result-2 : tie.Need-overflow_sub-result-2
 sub-result-2 c = rw (weight c) (pow_pos (c.args.s - 1))
 
-add-result : tie.Need-overflow-add-result
+add-result : tie.Need-overflow_add-result
 add-result c = let h = half_lt c in rw (weight c) (omega (arith, c.requires.0))
 
-add-result-2 : tie.Need-overflow-add-result-2
+add-result-2 : tie.Need-overflow_add-result-2
 add-result-2 c = let h = half_lt c in rw (weight c, and_mask (c.args.q / 2 ^ c.args.s) 1) (omega (arith, c.requires.0))
 
-shr-result : tie.Need-overflow-shr-result
+shr-result : tie.Need-overflow_shr-result
 shr-result c = search rules
 
 returns : tie.Need-returns
@@ -44,8 +44,8 @@ returns c =
     let e : 2 ^ c.args.s ≡ 2 * u = doubled c.args.s c.requires.1.0 in
     rw (weight c, and_mask (q / 2 ^ c.args.s) 1) (subst (λ (x : ℕ). (q + (u - 1) + q / x % 2) / x ≡ closest q x) (sym e) (sym (even_up q u (pow_pos (c.args.s - 1)))))
 
-pub nearest-even-spec : {M : Type 1} → statement M
-nearest-even-spec =
+pub nearest_even_spec : {M : Type 1} → statement M
+nearest_even_spec =
     tie.close
     (tie.spec
     shr-odd

@@ -8,5 +8,5 @@ returns : tie.Need-returns
 unfolding cross
 returns c = refl
 
-pub cross-of-spec : {M : Type 1} → statement M
-cross-of-spec = tie.close (tie.spec returns)
+pub cross_of_spec : {M : Type 1} → statement M
+cross_of_spec = tie.close (tie.spec returns)

@@ -8,87 +8,87 @@ use Rattle.shape.specs.Laws.Ears.{stays, fills, ring_oversize, ring_ragged, ears
 use Rattle.shape.proofs.ears.ear_clip.Statement.{statement}
 use Rattle.shape.proofs.ears.ear_clip.Tie as tie
 
-mul-if1 : tie.Need-overflow-mul-if1
+mul-if1 : tie.Need-overflow_mul-t-5
 mul-if1 c = search rules
 
-returns : tie.Need-returns
+returns : tie.Need-returns-then-ring
 unfolding read_ears number_of place_of
 returns c =
-    let start = c.before.before.before in
+    let start = c in
     let a = start.args in
     let ring = a.ring.now in
     let room = length a.out.now in
-    let e = ring_oversize ring room c.if1.true in
+    let e = ring_oversize ring room c.if-ring.true in
     (e, stays (ears_of ring) a.out.now e)
 
-returns-2 : tie.Need-returns-2
+returns-2 : tie.Need-returns-then-ring-ne0
 unfolding read_ears number_of place_of
 returns-2 c =
-    let start = c.before.before.before.before in
+    let start = c in
     let a = start.args in
     let ring = a.ring.now in
     let room = length a.out.now in
-    let e = ring_ragged ring room c.before.if1.false c.if2.true in
+    let e = ring_ragged ring room c.if-ring.false c.if-ring-ne0.true in
     (e, stays (ears_of ring) a.out.now e)
 
-slice-aggregate-clip : tie.Need-slice-aggregate-clip
+slice-aggregate-clip : tie.Need-slice_bounds-clip-end
 slice-aggregate-clip c = search rules
 
-clip-requires : tie.Need-clip-requires
+clip-requires : tie.Need-clip-wanted-requires
 clip-requires c κs = search rules
 
-returns-3 : tie.Need-returns-3
+returns-3 : tie.Need-returns-then-out-wanted
 unfolding read_ears number_of place_of
 returns-3 c =
-    let at_if2 = c.before.before.before.before in
-    let start = at_if2.before.before.before.before in
+    let at_if2 = c in
+    let start = at_if2 in
     let a = start.args in
     let ring = a.ring.now in
     let room = length a.out.now in
-    let p = c.before.before.clip.ensures in
-    let s : c.before.before.clip.result ≡ length (ears_of ring) = p.ends ∙ zero-add (length (ears_of ring)) in
-    let e = ap (refused 3) s ∙ ears_short ring room at_if2.before.if1.false at_if2.if2.false (omega (arith, c.if3.true)) in
+    let p = c.clip-wanted.ensures in
+    let s : c.clip-wanted.result ≡ length (ears_of ring) = p.ends ∙ zero-add (length (ears_of ring)) in
+    let e = ap (refused 3) s ∙ ears_short ring room at_if2.if-ring.false at_if2.if-ring-ne0.false (omega (arith, c.if-out-wanted.true)) in
     (e, stays (ears_of ring) a.out.now e)
 
-slice-aggregate-copy : tie.Need-slice-aggregate-copy
+slice-aggregate-copy : tie.Need-slice_bounds-copy-end
 slice-aggregate-copy c = search rules
 
 copy-requires : tie.Need-copy-requires
 copy-requires c κs =
-    let at_clip = c.before.before.before.before in
-    let at_if1 = at_clip.before.before.before in
-    let start = at_if1.before.before.before in
+    let at_clip = c in
+    let at_if1 = at_clip in
+    let start = at_if1 in
     let a = start.args in
     let ring = a.ring.now in
     let room = length a.out.now in
-    let p = at_clip.clip.ensures in
-    let s : at_clip.clip.result ≡ length (ears_of ring) = p.ends ∙ zero-add (length (ears_of ring)) in
-    omega (arith, s, ears_few ring at_if1.if1.false, put_length p, length-replicate {A = ℕ} 3072 0, c.before.before.if3.false)
+    let p = at_clip.clip-wanted.ensures in
+    let s : at_clip.clip-wanted.result ≡ length (ears_of ring) = p.ends ∙ zero-add (length (ears_of ring)) in
+    omega (arith, s, ears_few ring at_if1.if-ring.false, put_length p, length-replicate {A = ℕ} 3072 0, c.if-out-wanted.false)
 
-same_length : tie.Need-same-length
+same_length : tie.Need-shape_of-out
 same_length c = search rules
 
-returns-4 : tie.Need-returns-4
+returns-4 : tie.Need-returns
 unfolding read_ears number_of place_of
 returns-4 c =
-    let at_if3 = c.before.before.before.before.before in
-    let at_clip = at_if3.before.before in
-    let at_if1 = at_clip.before.before.before in
-    let start = at_if1.before.before.before in
+    let at_if3 = c in
+    let at_clip = at_if3 in
+    let at_if1 = at_clip in
+    let start = at_if1 in
     let a = start.args in
     let ring = a.ring.now in
     let room = length a.out.now in
-    let p = at_clip.clip.ensures in
-    let s : at_clip.clip.result ≡ length (ears_of ring) = p.ends ∙ zero-add (length (ears_of ring)) in
-    let t = ears_taken ring room at_if1.if1.false at_clip.before.before.if2.false (omega (arith, s, at_if3.if3.false)) in (
+    let p = at_clip.clip-wanted.ensures in
+    let s : at_clip.clip-wanted.result ≡ length (ears_of ring) = p.ends ∙ zero-add (length (ears_of ring)) in
+    let t = ears_taken ring room at_if1.if-ring.false at_clip.if-ring-ne0.false (omega (arith, s, at_if3.if-out-wanted.false)) in (
       ap (λ (n : ℕ). taken (n / 3)) s ∙ t,
       fills (ears_of ring) a.out.now _ t
-          (ears_copied ring a.out.now _ p (omega (arith, s, ears_few ring at_if1.if1.false, length-replicate {A = ℕ} 3072 0))
-          c.before.before.copy.ensures),
+          (ears_copied ring a.out.now _ p (omega (arith, s, ears_few ring at_if1.if-ring.false, length-replicate {A = ℕ} 3072 0))
+          c.copy.ensures),
     )
 
-pub ear-clip-spec : {M : Type 1} → statement M
-ear-clip-spec =
+pub ear_clip_spec : {M : Type 1} → statement M
+ear_clip_spec =
     tie.close
     (tie.spec
     mul-if1

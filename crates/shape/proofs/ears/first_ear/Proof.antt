@@ -7,59 +7,59 @@ use Rattle.shape.specs.Laws.Gather.{least_at, least_none}
 use Rattle.shape.proofs.ears.first_ear.Statement.{statement}
 use Rattle.shape.proofs.ears.first_ear.Tie as tie
 
-abbrev invariant-loop : tie.invariant-loop
+abbrev invariant-loop : tie.invariant-loop-k
 invariant-loop ring left k₀ k = (any (is_ear ring left) k ≡ false) × (k ≤ length left)
 
-abbrev decreases-loop : tie.decreases-loop
+abbrev decreases-loop : tie.decreases-loop-k
 decreases-loop ring left k₀ k = length left - k
 
-loop-holds : tie.Need-loop-init invariant-loop decreases-loop
+loop-holds : tie.Need-loop-k-init invariant-loop decreases-loop
 unfolding any
 loop-holds c = (refl, omega arith)
 
-is-ear-requires : tie.Need-is-ear-requires invariant-loop decreases-loop
-is-ear-requires c κs = (omega arith, c.before.before.before.before.requires.1)
+is-ear-requires : tie.Need-is_ear-requires invariant-loop decreases-loop
+is-ear-requires c κs = (omega arith, c.requires.1)
 
-returns : tie.Need-returns invariant-loop decreases-loop
+returns : tie.Need-returns-then-is_ear invariant-loop decreases-loop
 unfolding first_ear
 returns c =
-    let at_loop = c.before.before.before in
-    let start = at_loop.before.before.before in
+    let at_loop = c in
+    let start = at_loop in
     let a = start.args in
     let f = is_ear a.ring.now a.left.now in
-    let l = at_loop.loop in (
+    let l = at_loop.loop-k in (
       least_at f (length a.left.now) l.k (omega arith) (λ j h. any_none f j l.k h l.invariant.0)
-          (sym c.before.is-ear.ensures ∙ c.if1.true),
+          (sym c.is_ear.ensures ∙ c.if-is_ear.true),
       l.invariant.1,
     )
 
-add-k : tie.Need-overflow-add-k invariant-loop decreases-loop
+add-k : tie.Need-overflow_add-k invariant-loop decreases-loop
 add-k c = omega arith
 
-loop-less : tie.Need-loop-smaller invariant-loop decreases-loop
+loop-less : tie.Need-loop-k-smaller invariant-loop decreases-loop
 loop-less c = omega arith
 
-loop-again : tie.Need-loop-preserved invariant-loop decreases-loop
+loop-again : tie.Need-loop-k-preserved invariant-loop decreases-loop
 loop-again c =
-    let at_loop = c.before.before.before in
-    let start = at_loop.before.before.before in
+    let at_loop = c in
+    let start = at_loop in
     let a = start.args in
     let f = is_ear a.ring.now a.left.now in
-    let l = at_loop.loop in
-    (rw (any_next f l.k, l.invariant.0) (sym c.before.is-ear.ensures ∙ c.if1.false), omega arith)
+    let l = at_loop.loop-k in
+    (rw (any_next f l.k, l.invariant.0) (sym c.is_ear.ensures ∙ c.if-is_ear.false), omega arith)
 
-returns-2 : tie.Need-returns-2 invariant-loop decreases-loop
+returns-2 : tie.Need-returns invariant-loop decreases-loop
 unfolding first_ear
 returns-2 c =
-    let start = c.before.before.before.before in
+    let start = c in
     let a = start.args in
     let f = is_ear a.ring.now a.left.now in
-    let l = c.before.loop in
+    let l = c.loop-k in
     let e : l.k ≡ length a.left.now = omega (arith, l.invariant.1) in
     (e ∙ least_none f (length a.left.now) (λ j h. any_none f j (length a.left.now) h (rw e at l.invariant.0)), l.invariant.1)
 
-pub first-ear-spec : {M : Type 1} → statement M
-first-ear-spec =
+pub first_ear_spec : {M : Type 1} → statement M
+first_ear_spec =
     tie.close
     (tie.spec
     invariant-loop

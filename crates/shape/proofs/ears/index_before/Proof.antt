@@ -4,17 +4,17 @@ use Rattle.std.proofs.Common.{arith, rules}
 use Rattle.shape.proofs.ears.index_before.Statement.{statement}
 use Rattle.shape.proofs.ears.index_before.Tie as tie
 
-sub-result : tie.Need-overflow-sub-result
+sub-result : tie.Need-overflow_sub-result
 sub-result c = search rules
 
-sub-result-2 : tie.Need-overflow-sub-result-2
+sub-result-2 : tie.Need-overflow_sub-result-else-k-eq0
 sub-result-2 c = search rules
 
-returns : tie.Need-returns
-returns c = (before_first c.before.args.k c.before.args.n c.before.requires.0 c.if1.true, omega arith)
+returns : tie.Need-returns-then-k-eq0
+returns c = (before_first c.args.k c.args.n c.requires.0 c.if-k-eq0.true, omega arith)
 
-returns-2 : tie.Need-returns-2
-returns-2 c = (before_rest c.before.args.k c.before.args.n c.before.requires.0 c.if1.false, omega arith)
+returns-2 : tie.Need-returns-else-k-eq0
+returns-2 c = (before_rest c.args.k c.args.n c.requires.0 c.if-k-eq0.false, omega arith)
 
-pub index-before-spec : {M : Type 1} → statement M
-index-before-spec = tie.close (tie.spec sub-result sub-result-2 returns returns-2)
+pub index_before_spec : {M : Type 1} → statement M
+index_before_spec = tie.close (tie.spec sub-result sub-result-2 returns returns-2)

@@ -7,42 +7,42 @@ use Rattle.std.proofs.Common.{rules}
 use Rattle.shape.proofs.ears.is_inside.Statement.{statement}
 use Rattle.shape.proofs.ears.is_inside.Tie as tie
 
-cross-of-requires : tie.Need-cross-of-requires
+cross-of-requires : tie.Need-cross_of-requires
 cross-of-requires c κs = search rules
 
-cross-of-requires-2 : tie.Need-cross-of-requires-2
+cross-of-requires-2 : tie.Need-cross_of-requires-then-cross_of
 cross-of-requires-2 c κs = search rules
 
-cross-of-requires-3 : tie.Need-cross-of-requires-3
+cross-of-requires-3 : tie.Need-cross_of-requires-then-cross_of-2
 cross-of-requires-3 c κs = search rules
 
-returns : tie.Need-returns
+returns : tie.Need-returns-then-cross_of-2
 unfolding inside
 returns c =
-    let at_if1 = c.before.before.before in
-    let start = at_if1.before.before in
-    rw c.cross-of3.ensures (and_last (le 0f (cross start.args.a start.args.b start.args.p))
+    let at_if1 = c in
+    let start = at_if1 in
+    rw c.cross_of-then-cross_of-2.ensures (and_last (le 0f (cross start.args.a start.args.b start.args.p))
     (le 0f (cross start.args.b start.args.c start.args.p)) (le 0f (cross start.args.c start.args.a start.args.p))
-    (rw at_if1.before.cross-of.ensures at at_if1.if1.true) (rw c.before.before.cross-of2.ensures at c.before.if2.true))
+    (rw at_if1.cross_of.ensures at at_if1.if-cross_of.true) (rw c.cross_of-then-cross_of.ensures at c.if-cross_of-2.true))
 
-returns-2 : tie.Need-returns-2
+returns-2 : tie.Need-returns-else-cross_of-2
 unfolding inside
 returns-2 c =
-    let start = c.before.before.before.before in
+    let start = c in
     and_left (le 0f (cross start.args.a start.args.b start.args.p))
     (le 0f (cross start.args.b start.args.c start.args.p)) (le 0f (cross start.args.c start.args.a start.args.p))
-    (rw c.before.cross-of2.ensures at c.if2.false)
+    (rw c.cross_of-then-cross_of.ensures at c.if-cross_of-2.false)
 
-returns-3 : tie.Need-returns-3
+returns-3 : tie.Need-returns-else-cross_of
 unfolding inside
 returns-3 c =
-    let start = c.before.before in
+    let start = c in
     and_right (le 0f (cross start.args.a start.args.b start.args.p))
     (le 0f (cross start.args.b start.args.c start.args.p)) (le 0f (cross start.args.c start.args.a start.args.p))
-    (rw c.before.cross-of.ensures at c.if1.false)
+    (rw c.cross_of.ensures at c.if-cross_of.false)
 
-pub is-inside-spec : {M : Type 1} → statement M
-is-inside-spec =
+pub is_inside_spec : {M : Type 1} → statement M
+is_inside_spec =
     tie.close
     (tie.spec
     cross-of-requires

@@ -4,19 +4,19 @@ use Rattle.shape.specs.Ears.{ear_of}
 use Rattle.shape.proofs.ears.is_triangle.Statement.{statement}
 use Rattle.shape.proofs.ears.is_triangle.Tie as tie
 
-turns-left-requires : tie.Need-turns-left-requires
+turns-left-requires : tie.Need-turns_left-requires
 turns-left-requires c κs = search rules
 
-any-blocks-requires : tie.Need-any-blocks-requires
+any-blocks-requires : tie.Need-any_blocks-requires
 any-blocks-requires c κs = search rules
 
-returns : tie.Need-returns
+returns : tie.Need-returns-then-turns_left
 unfolding ear_of
-returns c = rw (sym c.before.before.turns-left.ensures ∙ c.before.if1.true, c.any-blocks.ensures)
+returns c = rw (sym c.turns_left.ensures ∙ c.if-turns_left.true, c.any_blocks.ensures)
 
-returns-2 : tie.Need-returns-2
+returns-2 : tie.Need-returns
 unfolding ear_of
-returns-2 c = rw (sym c.before.turns-left.ensures ∙ c.if1.false)
+returns-2 c = rw (sym c.turns_left.ensures ∙ c.if-turns_left.false)
 
-pub is-triangle-spec : {M : Type 1} → statement M
-is-triangle-spec = tie.close (tie.spec turns-left-requires any-blocks-requires returns returns-2)
+pub is_triangle_spec : {M : Type 1} → statement M
+is_triangle_spec = tie.close (tie.spec turns-left-requires any-blocks-requires returns returns-2)

@@ -14,7 +14,7 @@ mul-requires-2 c κs = search rules
 
 returns : tie.Need-returns
 unfolding coefficients_of bicubic transpose_of gather of_bits neg
-returns c = rw (c.mul2.ensures, c.before.mul.ensures)
+returns c = rw (c.mul-2.ensures, c.mul.ensures)
 
-pub coefficients-spec : {M : Type 1} → statement M
-coefficients-spec = tie.close (tie.spec mul-requires mul-requires-2 returns)
+pub coefficients_spec : {M : Type 1} → statement M
+coefficients_spec = tie.close (tie.spec mul-requires mul-requires-2 returns)

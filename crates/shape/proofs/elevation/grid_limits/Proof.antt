@@ -5,27 +5,27 @@ use Rattle.std.proofs.Common.{rules}
 use Rattle.shape.proofs.elevation.grid_limits.Statement.{statement}
 use Rattle.shape.proofs.elevation.grid_limits.Tie as tie
 
-enum_told : tie.Need-enum-told
+enum_told : tie.Need-enum_told-1
 enum_told c = search rules
 
-enum-told-2 : tie.Need-enum-told-2
+enum-told-2 : tie.Need-enum_told-in-Ragged
 enum-told-2 c = search rules
 
-enum-known-seen : tie.Need-enum-known-seen
+enum-known-seen : tie.Need-enum_known-seen
 enum-known-seen c = search rules
 
-returns : tie.Need-returns
+returns : tie.Need-returns-in-Long
 unfolding limits_seen found number_of place_of
-returns c = rw c.enum_told.given.1
+returns c = rw c.in-Long.is
 
-returns-2 : tie.Need-returns-2
+returns-2 : tie.Need-returns-in-Ragged
 unfolding limits_seen found number_of place_of
-returns-2 c = rw c.enum-told2.given.1
+returns-2 c = rw c.in-Ragged.is
 
-returns-3 : tie.Need-returns-3
+returns-3 : tie.Need-returns-in-Widest
 unfolding limits_seen found number_of place_of
-returns-3 c = rw c.before.seen.given.1
+returns-3 c = rw c.in-Widest.is
 
-pub grid-limits-spec : {M : Type 1} → statement M
-grid-limits-spec =
+pub grid_limits_spec : {M : Type 1} → statement M
+grid_limits_spec =
     tie.close (tie.spec enum_told enum-told-2 enum-known-seen returns returns-2 returns-3)

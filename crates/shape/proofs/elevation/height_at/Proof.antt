@@ -4,7 +4,7 @@ use Rattle.std.proofs.Common.{rules}
 use Rattle.shape.proofs.elevation.height_at.Statement.{statement}
 use Rattle.shape.proofs.elevation.height_at.Tie as tie
 
-locate-requires : tie.Need-locate-requires
+locate-requires : tie.Need-locate-at-requires
 locate-requires c κs = search rules
 
 height-requires : tie.Need-height-requires
@@ -12,7 +12,7 @@ height-requires c κs = search rules
 
 returns : tie.Need-returns
 unfolding height_at_answer
-returns c = rw (← c.before.locate.ensures) c.height.ensures
+returns c = rw (← c.locate-at.ensures) c.height.ensures
 
-pub height-at-spec : {M : Type 1} → statement M
-height-at-spec = tie.close (tie.spec locate-requires height-requires returns)
+pub height_at_spec : {M : Type 1} → statement M
+height_at_spec = tie.close (tie.spec locate-requires height-requires returns)

@@ -7,113 +7,113 @@ use Rattle.shape.proofs.Squares.{spacing_nan, spacing_low, no_rows, some_rows, o
 use Rattle.shape.proofs.elevation.height_in.Statement.{statement}
 use Rattle.shape.proofs.elevation.height_in.Tie as tie
 
-returns : tie.Need-returns
+returns : tie.Need-returns-then-spacing
 returns c =
-    let start = c.before.before.before.before in
+    let start = c in
     spacing_nan start.args.grid start.args.rows.now start.args.left.now start.args.right.now start.args.s
-    start.args.t c.if1.true
+    start.args.t c.if-spacing.true
 
-returns-2 : tie.Need-returns-2
+returns-2 : tie.Need-returns-then-spacing-2
 returns-2 c =
-    let start = c.before.before.before.before.before in
+    let start = c in
     spacing_low start.args.grid start.args.rows.now start.args.left.now start.args.right.now start.args.s
-    start.args.t c.if2.true
+    start.args.t c.if-spacing-2.true
 
-returns-3 : tie.Need-returns-3
+returns-3 : tie.Need-returns-then-m-eq0
 returns-3 c =
-    let start = c.before.before.before.before.before.before in
+    let start = c in
     no_rows start.args.grid start.args.rows.now start.args.left.now start.args.right.now start.args.s start.args.t
-    (eq-eqb _ _ c.if3.true) c.before.before.if1.false c.before.if2.false
+    (eq-eqb _ _ c.if-m-eq0.true) c.if-spacing.false c.if-spacing-2.false
 
-snap-requires : tie.Need-snap-requires
+snap-requires : tie.Need-snap-u-requires
 snap-requires c κs = search rules
 
-snap-requires-2 : tie.Need-snap-requires-2
+snap-requires-2 : tie.Need-snap-v-requires
 snap-requires-2 c κs = search rules
 
-sub-last : tie.Need-overflow-sub-last
+sub-last : tie.Need-overflow_sub-last
 sub-last c = search rules
 
-int-to-float-last : tie.Need-int-to-float-last
+int-to-float-last : tie.Need-int_to_float-last
 int-to-float-last c =
-    let at_if2 = c.before.before.before.before.before in
-    let start = at_if2.before.before.before.before.before in
+    let at_if2 = c in
+    let start = at_if2 in
     count_whole _ (omega (arith, start.requires.few))
 
-int-to-float-wide : tie.Need-int-to-float-wide
+int-to-float-wide : tie.Need-int_to_float-wide
 int-to-float-wide c =
-    let at_snap = c.before.before.before in
-    let start = at_snap.before.before.before.before.before.before.before.before in
+    let at_snap = c in
+    let start = at_snap in
     count_whole _ start.requires.narrow
 
-is-within-requires : tie.Need-is-within-requires
+is-within-requires : tie.Need-is_within-requires
 is-within-requires c κs = search rules
 
-returns-4 : tie.Need-returns-4
+returns-4 : tie.Need-returns-then-not-is_within
 returns-4 c =
-    let at_snap2 = c.before.before.before.before in
-    let at_if3 = at_snap2.before.before.before in
-    let start = at_if3.before.before.before.before.before.before in
+    let at_snap2 = c in
+    let at_if3 = at_snap2 in
+    let start = at_if3 in
     off_rows start.args.rows.now start.args.left.now start.args.right.now _ _
-    (sym c.before.is_Within.ensures ∙ not-true c.before.is_Within.result c.if4.true)
+    (sym c.is_within.ensures ∙ not-true c.is_within.result c.if-not-is_within.true)
     ∙ some_rows start.args.grid start.args.rows.now start.args.left.now start.args.right.now start.args.s
-    start.args.t (ne_eqb _ _ at_if3.if3.false) at_if3.before.before.if1.false at_if3.before.if2.false
-    at_snap2.before.snap.ensures at_snap2.snap2.ensures
+    start.args.t (ne_eqb _ _ at_if3.if-m-eq0.false) at_if3.if-spacing.false at_if3.if-spacing-2.false
+    at_snap2.snap-u.ensures at_snap2.snap-v.ensures
 
-is-within-requires-2 : tie.Need-is-within-requires-2
+is-within-requires-2 : tie.Need-is_within-requires-2
 is-within-requires-2 c κs = search rules
 
-returns-5 : tie.Need-returns-5
+returns-5 : tie.Need-returns-then-not-is_within-2
 returns-5 c =
-    let at_is_within = c.before.before.before in
-    let at_snap2 = at_is_within.before.before.before in
-    let at_if3 = at_snap2.before.before.before in
-    let start = at_if3.before.before.before.before.before.before in
+    let at_is_within = c in
+    let at_snap2 = at_is_within in
+    let at_if3 = at_snap2 in
+    let start = at_if3 in
     off_columns start.args.rows.now start.args.left.now start.args.right.now _ _ start.args.most start.requires.widest
-    (sym at_is_within.is_Within.ensures ∙ not-false at_is_within.is_Within.result c.before.before.if4.false)
-    (sym c.before.is-within2.ensures ∙ not-true c.before.is-within2.result c.if5.true)
+    (sym at_is_within.is_within.ensures ∙ not-false at_is_within.is_within.result c.if-not-is_within.false)
+    (sym c.is_within-2.ensures ∙ not-true c.is_within-2.result c.if-not-is_within-2.true)
     ∙ some_rows start.args.grid start.args.rows.now start.args.left.now start.args.right.now start.args.s
-    start.args.t (ne_eqb _ _ at_if3.if3.false) at_if3.before.before.if1.false at_if3.before.if2.false
-    at_snap2.before.snap.ensures at_snap2.snap2.ensures
+    start.args.t (ne_eqb _ _ at_if3.if-m-eq0.false) at_if3.if-spacing.false at_if3.if-spacing-2.false
+    at_snap2.snap-u.ensures at_snap2.snap-v.ensures
 
-place-of-requires : tie.Need-place-of-requires
+place-of-requires : tie.Need-place_of-requires
 place-of-requires c κs =
-    let at_is_within = c.before.before.before in
-    let at_snap = at_is_within.before.before.before.before in
-    let start = at_snap.before.before.before.before.before.before.before.before in
+    let at_is_within = c in
+    let at_snap = at_is_within in
+    let start = at_snap in
     row_near _ _ (omega (arith, start.requires.few))
-    (sym at_is_within.is_Within.ensures ∙ not-false at_is_within.is_Within.result c.before.before.if4.false)
+    (sym at_is_within.is_within.ensures ∙ not-false at_is_within.is_within.result c.if-not-is_within.false)
 
-place-of-requires-2 : tie.Need-place-of-requires-2
+place-of-requires-2 : tie.Need-place_of-requires-2
 place-of-requires-2 c κs =
-    let at_snap = c.before.before.before.before.before.before.before.before in
-    let start = at_snap.before.before.before.before.before.before.before.before in
+    let at_snap = c in
+    let start = at_snap in
     column_near _ _ start.requires.narrow
-    (sym c.before.before.is-within2.ensures ∙ not-false c.before.before.is-within2.result c.before.if5.false)
+    (sym c.is_within-2.ensures ∙ not-false c.is_within-2.result c.if-not-is_within-2.false)
 
-on-grid-requires : tie.Need-on-grid-requires
-on-grid-requires c κs = (c.before.place_of.ensures.low, c.before.place_of.ensures.high, c.place-of2.ensures.low, c.place-of2.ensures.high)
+on-grid-requires : tie.Need-on_grid-requires
+on-grid-requires c κs = (c.place_of.ensures.low, c.place_of.ensures.high, c.place_of-2.ensures.low, c.place_of-2.ensures.high)
 
-returns-6 : tie.Need-returns-6
+returns-6 : tie.Need-returns
 returns-6 c =
-    let at_if5 = c.before.before.before in
-    let at_is_within2 = at_if5.before in
-    let at_is_within = at_is_within2.before.before in
-    let at_snap2 = at_is_within.before.before.before in
-    let at_if3 = at_snap2.before.before.before in
-    let start = at_if3.before.before.before.before.before.before in
-    c.on-grid.ensures
+    let at_if5 = c in
+    let at_is_within2 = at_if5 in
+    let at_is_within = at_is_within2 in
+    let at_snap2 = at_is_within in
+    let at_if3 = at_snap2 in
+    let start = at_if3 in
+    c.on_grid.ensures
     ∙ on_grid_is (value_of start.args.rows.now start.args.left.now start.args.right.now) _ _ _ _
-    c.before.before.place_of.ensures c.before.place-of2.ensures
+    c.place_of.ensures c.place_of-2.ensures
     ∙ on_both start.args.rows.now start.args.left.now start.args.right.now _ _ start.args.most start.requires.widest
-    (sym at_is_within.is_Within.ensures ∙ not-false at_is_within.is_Within.result at_is_within2.before.if4.false)
-    (sym at_is_within2.is-within2.ensures ∙ not-false at_is_within2.is-within2.result at_if5.if5.false)
+    (sym at_is_within.is_within.ensures ∙ not-false at_is_within.is_within.result at_is_within2.if-not-is_within.false)
+    (sym at_is_within2.is_within-2.ensures ∙ not-false at_is_within2.is_within-2.result at_if5.if-not-is_within-2.false)
     ∙ some_rows start.args.grid start.args.rows.now start.args.left.now start.args.right.now start.args.s
-    start.args.t (ne_eqb _ _ at_if3.if3.false) at_if3.before.before.if1.false at_if3.before.if2.false
-    at_snap2.before.snap.ensures at_snap2.snap2.ensures
+    start.args.t (ne_eqb _ _ at_if3.if-m-eq0.false) at_if3.if-spacing.false at_if3.if-spacing-2.false
+    at_snap2.snap-u.ensures at_snap2.snap-v.ensures
 
-pub height-in-spec : {M : Type 1} → statement M
-height-in-spec =
+pub height_in_spec : {M : Type 1} → statement M
+height_in_spec =
     tie.close
     (tie.spec
     returns

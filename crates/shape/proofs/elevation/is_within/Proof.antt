@@ -3,13 +3,13 @@ use Rattle.shape.specs.Elevation.{within}
 use Rattle.shape.proofs.elevation.is_within.Statement.{statement}
 use Rattle.shape.proofs.elevation.is_within.Tie as tie
 
-returns : tie.Need-returns
+returns : tie.Need-returns-then-lo-x
 unfolding within
-returns c = rw c.if1.true
+returns c = rw c.if-lo-x.true
 
-returns-2 : tie.Need-returns-2
+returns-2 : tie.Need-returns-else-lo-x
 unfolding within
-returns-2 c = rw c.if1.false
+returns-2 c = rw c.if-lo-x.false
 
-pub is-within-spec : {M : Type 1} → statement M
-is-within-spec = tie.close (tie.spec returns returns-2)
+pub is_within_spec : {M : Type 1} → statement M
+is_within_spec = tie.close (tie.spec returns returns-2)

@@ -8,5 +8,5 @@ returns : tie.Need-returns
 unfolding locate_of
 returns c = refl
 
-pub locate-spec : {M : Type 1} → statement M
-locate-spec = tie.close (tie.spec returns)
+pub locate_spec : {M : Type 1} → statement M
+locate_spec = tie.close (tie.spec returns)

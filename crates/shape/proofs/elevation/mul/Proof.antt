@@ -56,32 +56,32 @@ entry-requires-16 c κs = search rules
 returns : tie.Need-returns
 unfolding mul_of gather
 returns c =
-    let at_entry13 = c.before.before.before in
-    let at_entry10 = at_entry13.before.before.before in
-    let at_entry7 = at_entry10.before.before.before in
-    let at_entry4 = at_entry7.before.before.before in
-    let at_entry_lem = at_entry4.before.before.before in
+    let at_entry13 = c in
+    let at_entry10 = at_entry13 in
+    let at_entry7 = at_entry10 in
+    let at_entry4 = at_entry7 in
+    let at_entry_lem = at_entry4 in
     rw (
-      c.entry16.ensures,
-      c.before.entry15.ensures,
-      c.before.before.entry14.ensures,
-      at_entry13.entry13.ensures,
-      at_entry13.before.entry12.ensures,
-      at_entry13.before.before.entry11.ensures,
-      at_entry10.entry10.ensures,
-      at_entry10.before.entry9.ensures,
-      at_entry10.before.before.entry8.ensures,
-      at_entry7.entry7.ensures,
-      at_entry7.before.entry6.ensures,
-      at_entry7.before.before.entry5.ensures,
-      at_entry4.entry4.ensures,
-      at_entry4.before.entry3.ensures,
-      at_entry4.before.before.entry2.ensures,
+      c.entry-16.ensures,
+      c.entry-15.ensures,
+      c.entry-14.ensures,
+      at_entry13.entry-13.ensures,
+      at_entry13.entry-12.ensures,
+      at_entry13.entry-11.ensures,
+      at_entry10.entry-10.ensures,
+      at_entry10.entry-9.ensures,
+      at_entry10.entry-8.ensures,
+      at_entry7.entry-7.ensures,
+      at_entry7.entry-6.ensures,
+      at_entry7.entry-5.ensures,
+      at_entry4.entry-4.ensures,
+      at_entry4.entry-3.ensures,
+      at_entry4.entry-2.ensures,
       at_entry_lem.entry.ensures,
     )
 
-pub mul-spec : {M : Type 1} → statement M
-mul-spec =
+pub mul_spec : {M : Type 1} → statement M
+mul_spec =
     tie.close
     (tie.spec
     entry-requires

@@ -4,19 +4,19 @@ use Rattle.std.proofs.Common.{rules}
 use Rattle.shape.proofs.elevation.second_of.Statement.{statement}
 use Rattle.shape.proofs.elevation.second_of.Tie as tie
 
-enum-known-x : tie.Need-enum-known-x
+enum-known-x : tie.Need-enum_known-x
 enum-known-x c = search rules
 
-enum_told : tie.Need-enum-told
+enum_told : tie.Need-enum_told-1
 enum_told c = search rules
 
-returns : tie.Need-returns
+returns : tie.Need-returns-in_default
 unfolding second_of
-returns c = rw c.enum_told.given.1
+returns c = rw c.in_default.is
 
-returns-2 : tie.Need-returns-2
+returns-2 : tie.Need-returns
 unfolding second_of
-returns-2 c = rw c.before.x.given.1
+returns-2 c = rw c.in-Both.is
 
-pub second-of-spec : {M : Type 1} → statement M
-second-of-spec = tie.close (tie.spec enum-known-x enum_told returns returns-2)
+pub second_of_spec : {M : Type 1} → statement M
+second_of_spec = tie.close (tie.spec enum-known-x enum_told returns returns-2)

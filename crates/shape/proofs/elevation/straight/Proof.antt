@@ -8,5 +8,5 @@ returns : tie.Need-returns
 unfolding straight_of
 returns c = refl
 
-pub straight-spec : {M : Type 1} → statement M
-straight-spec = tie.close (tie.spec returns)
+pub straight_spec : {M : Type 1} → statement M
+straight_spec = tie.close (tie.spec returns)

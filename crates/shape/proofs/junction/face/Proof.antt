@@ -14,35 +14,35 @@ sub-requires-2 c κs = search rules
 cross-requires : tie.Need-cross-requires
 cross-requires c κs = search rules
 
-normalize-or-requires : tie.Need-normalize-or-requires
+normalize-or-requires : tie.Need-normalize_or-v-requires
 normalize-or-requires c κs = search rules
 
 mul-requires : tie.Need-mul-requires
 mul-requires c κs = search rules
 
-returns : tie.Need-returns
+returns : tie.Need-returns-then-v
 unfolding up_vector
 returns c =
-    let at_normalize_or = c.before.before.before in
-    let at_sub = at_normalize_or.before.before.before in
-    let start = at_sub.before in
+    let at_normalize_or = c in
+    let at_sub = at_normalize_or in
+    let start = at_sub in
     let a = start.args in
-    let e = rw (at_normalize_or.before.cross.ensures, at_normalize_or.before.before.sub2.ensures, at_sub.sub.ensures) at
-    at_normalize_or.normalize-or.ensures in
-    rw c.mul.ensures (face_downward a.a a.b a.c _ e c.before.if1.true)
+    let e = rw (at_normalize_or.cross.ensures, at_normalize_or.sub-2.ensures, at_sub.sub.ensures) at
+    at_normalize_or.normalize_or-v.ensures in
+    rw c.mul.ensures (face_downward a.a a.b a.c _ e c.if-v.true)
 
-returns-2 : tie.Need-returns-2
+returns-2 : tie.Need-returns-else-v
 unfolding up_vector
 returns-2 c =
-    let at_cross = c.before.before.before in
-    let start = at_cross.before.before.before in
+    let at_cross = c in
+    let start = at_cross in
     let a = start.args in
-    let e = rw (at_cross.cross.ensures, at_cross.before.sub2.ensures, at_cross.before.before.sub.ensures) at
-    c.before.before.normalize-or.ensures in
-    face_upward a.a a.b a.c _ e c.if1.false
+    let e = rw (at_cross.cross.ensures, at_cross.sub-2.ensures, at_cross.sub.ensures) at
+    c.normalize_or-v.ensures in
+    face_upward a.a a.b a.c _ e c.if-v.false
 
-pub face-spec : {M : Type 1} → statement M
-face-spec =
+pub face_spec : {M : Type 1} → statement M
+face_spec =
     tie.close
     (tie.spec
     sub-requires

@@ -4,30 +4,30 @@ use Rattle.std.proofs.Common.{rules}
 use Rattle.shape.proofs.junction.input_fault.Statement.{statement}
 use Rattle.shape.proofs.junction.input_fault.Tie as tie
 
-mul-oversize-if : tie.Need-overflow-mul-oversize-if
+mul-oversize-if : tie.Need-overflow_mul-oversize_if
 mul-oversize-if c = search rules
 
-grid-limits-requires : tie.Need-grid-limits-requires
+grid-limits-requires : tie.Need-grid_limits-requires
 grid-limits-requires c κs = search rules
 
-oversize-if-requires : tie.Need-oversize-if-requires
+oversize-if-requires : tie.Need-oversize_if-limits-requires
 oversize-if-requires c κs = search rules
 
-grid-ragged-requires : tie.Need-grid-ragged-requires
+grid-ragged-requires : tie.Need-grid_ragged-requires
 grid-ragged-requires c κs = search rules
 
-ragged-if-requires : tie.Need-ragged-if-requires
+ragged-if-requires : tie.Need-ragged_if-ragged-requires
 ragged-if-requires c κs = search rules
 
-or-else-requires : tie.Need-or-else-requires
+or-else-requires : tie.Need-or_else-requires
 or-else-requires c κs = search rules
 
 returns : tie.Need-returns
 unfolding longer uneven
 returns c = cc
 
-pub input-fault-spec : {M : Type 1} → statement M
-input-fault-spec =
+pub input_fault_spec : {M : Type 1} → statement M
+input_fault_spec =
     tie.close
     (tie.spec
     mul-oversize-if

@@ -4,13 +4,13 @@ use Rattle.std.proofs.Common.{rules}
 use Rattle.shape.proofs.junction.lattice_point.Statement.{statement}
 use Rattle.shape.proofs.junction.lattice_point.Tie as tie
 
-single-requires : tie.Need-single-requires
+single-requires : tie.Need-single-n-requires
 single-requires c κs = search rules
 
-single-requires-2 : tie.Need-single-requires-2
+single-requires-2 : tie.Need-single-requires
 single-requires-2 c κs = search rules
 
-single-requires-3 : tie.Need-single-requires-3
+single-requires-3 : tie.Need-single-requires-2
 single-requires-3 c κs = search rules
 
 sub-requires : tie.Need-sub-requires
@@ -34,22 +34,22 @@ add-requires-2 c κs = search rules
 returns : tie.Need-returns
 unfolding lattice
 returns c =
-    let at_add = c.before.before.before in
-    let at_single3 = at_add.before.before.before in
+    let at_add = c in
+    let at_single3 = at_add in
     rw (
-      c.add2.ensures,
-      c.before.mul2.ensures,
-      c.before.before.sub2.ensures,
+      c.add-2.ensures,
+      c.mul-2.ensures,
+      c.sub-2.ensures,
       at_add.add.ensures,
-      at_add.before.mul.ensures,
-      at_add.before.before.sub.ensures,
-      at_single3.single3.ensures,
-      at_single3.before.single2.ensures,
-      at_single3.before.before.single.ensures,
+      at_add.mul.ensures,
+      at_add.sub.ensures,
+      at_single3.single-2.ensures,
+      at_single3.single.ensures,
+      at_single3.single-n.ensures,
     )
 
-pub lattice-point-spec : {M : Type 1} → statement M
-lattice-point-spec =
+pub lattice_point_spec : {M : Type 1} → statement M
+lattice_point_spec =
     tie.close
     (tie.spec
     single-requires

@@ -11,7 +11,7 @@ longest-requires c κs = search rules
 widen-requires : tie.Need-widen-requires
 widen-requires c κs = search rules
 
-ceil64-requires : tie.Need-ceil64-requires
+ceil64-requires : tie.Need-ceil64-n-requires
 ceil64-requires c κs = search rules
 
 clamp64-requires : tie.Need-clamp64-requires
@@ -23,16 +23,16 @@ count64-requires c κs = search rules
 returns : tie.Need-returns
 unfolding parts_of
 returns c =
-    let at_widen = c.before.before.before in
-    let start = at_widen.before.before in
+    let at_widen = c in
+    let start = at_widen in
     let a = start.args in
     let e = rw
-    (c.before.clamp64.ensures, c.before.before.ceil64.ensures, at_widen.widen.ensures, at_widen.before.longest.ensures) at
+    (c.clamp64.ensures, c.ceil64-n.ensures, at_widen.widen.ensures, at_widen.longest.ensures) at
     c.count64.ensures in
     (e, rw e (parts_few a.step a.a a.b a.c))
 
-pub parts-spec : {M : Type 1} → statement M
-parts-spec =
+pub parts_spec : {M : Type 1} → statement M
+parts_spec =
     tie.close
     (tie.spec
     longest-requires

@@ -5,19 +5,19 @@ use Rattle.std.proofs.Common.{rules}
 use Rattle.shape.proofs.junction.spacing_of.Statement.{statement}
 use Rattle.shape.proofs.junction.spacing_of.Tie as tie
 
-enum_told : tie.Need-enum-told
+enum_told : tie.Need-enum_told-1
 enum_told c = search rules
 
-enum-known-grid : tie.Need-enum-known-grid
+enum-known-grid : tie.Need-enum_known-grid
 enum-known-grid c = search rules
 
-returns : tie.Need-returns
+returns : tie.Need-returns-in-Absent
 unfolding spacing_of div of_bits
-returns c = rw c.enum_told.given.1
+returns c = rw c.in-Absent.is
 
-returns-2 : tie.Need-returns-2
+returns-2 : tie.Need-returns-in-Present
 unfolding spacing_of
-returns-2 c = rw c.before.grid.given.1
+returns-2 c = rw c.in-Present.is
 
-pub spacing-of-spec : {M : Type 1} → statement M
-spacing-of-spec = tie.close (tie.spec enum_told enum-known-grid returns returns-2)
+pub spacing_of_spec : {M : Type 1} → statement M
+spacing_of_spec = tie.close (tie.spec enum_told enum-known-grid returns returns-2)

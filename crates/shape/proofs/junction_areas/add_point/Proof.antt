@@ -4,36 +4,36 @@ use Rattle.shape.proofs.Joining.{add_new, add_old}
 use Rattle.shape.proofs.junction_areas.add_point.Statement.{statement}
 use Rattle.shape.proofs.junction_areas.add_point.Tie as tie
 
-is-new-requires : tie.Need-is-new-requires
+is-new-requires : tie.Need-is_new-requires
 is-new-requires c κs = search rules
 
-mul-put-point : tie.Need-overflow-mul-put-point
+mul-put-point : tie.Need-overflow_mul-h
 mul-put-point c = search rules
 
-put-point-requires : tie.Need-put-point-requires
+put-point-requires : tie.Need-put_point-requires
 put-point-requires c κs = search rules
 
-add-t5 : tie.Need-overflow-add-t5
+add-t5 : tie.Need-overflow_add-result
 add-t5 c = search rules
 
-same_length : tie.Need-same-length
+same_length : tie.Need-shape_of-line-then-is_new
 same_length c = search rules
 
-returns : tie.Need-returns
+returns : tie.Need-returns-then-is_new
 returns c =
-    let at_put_point = c.before.before.before in
-    let at_if1 = at_put_point.before.before.before in
-    let start = at_if1.before.before.before in (
-      λ blank ring h. add_new h start.args.p (sym (at_if1.before.is-new.ensures ring h.many h.end) ∙ at_if1.if1.true)
-          at_put_point.put-point.ensures,
+    let at_put_point = c in
+    let at_if1 = at_put_point in
+    let start = at_if1 in (
+      λ blank ring h. add_new h start.args.p (sym (at_if1.is_new.ensures ring h.many h.end) ∙ at_if1.if-is_new.true)
+          at_put_point.put_point.ensures,
       omega arith,
     )
 
-returns-2 : tie.Need-returns-2
-returns-2 c = (λ blank ring h. add_old h c.before.before.before.args.p (sym (c.before.is-new.ensures ring h.many h.end) ∙ c.if1.false), omega arith)
+returns-2 : tie.Need-returns
+returns-2 c = (λ blank ring h. add_old h c.args.p (sym (c.is_new.ensures ring h.many h.end) ∙ c.if-is_new.false), omega arith)
 
-pub add-point-spec : {M : Type 1} → statement M
-add-point-spec =
+pub add_point_spec : {M : Type 1} → statement M
+add_point_spec =
     tie.close
     (tie.spec
     is-new-requires

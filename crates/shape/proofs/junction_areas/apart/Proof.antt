@@ -4,20 +4,20 @@ use Rattle.shape.specs.Outline.{reach_of}
 use Rattle.shape.proofs.junction_areas.apart.Statement.{statement}
 use Rattle.shape.proofs.junction_areas.apart.Tie as tie
 
-clearly-apart-requires : tie.Need-clearly-apart-requires
+clearly-apart-requires : tie.Need-clearly_apart-requires
 clearly-apart-requires c κs = search rules
 
-returns : tie.Need-returns
+returns : tie.Need-returns-then-clearly_apart
 unfolding reach_of
-returns c = sym (c.before.clearly-apart.ensures c.if1.true)
+returns c = sym (c.clearly_apart.ensures c.if-clearly_apart.true)
 
-hypot-above-milli-requires : tie.Need-hypot-above-milli-requires
+hypot-above-milli-requires : tie.Need-hypot_above_milli-requires
 hypot-above-milli-requires c κs = search rules
 
-returns-2 : tie.Need-returns-2
+returns-2 : tie.Need-returns
 unfolding reach_of
-returns-2 c = c.hypot-above-milli.ensures
+returns-2 c = c.hypot_above_milli.ensures
 
-pub apart-spec : {M : Type 1} → statement M
-apart-spec =
+pub apart_spec : {M : Type 1} → statement M
+apart_spec =
     tie.close (tie.spec clearly-apart-requires returns hypot-above-milli-requires returns-2)

@@ -17,60 +17,60 @@ record Inv (s : List Float) (back : Bool) (line₀ line : List Float) (from h : 
   most : i ≤ n
   long : length line ≡ length line₀
 
-abbrev invariant-loop : tie.invariant-loop
+abbrev invariant-loop : tie.invariant-loop-i
 invariant-loop s back line₀ n h₀ i₀ line h i = Inv s back line₀ line h₀ h n i
 
-abbrev decreases-loop : tie.decreases-loop
+abbrev decreases-loop : tie.decreases-loop-i
 decreases-loop s back line₀ n h₀ i₀ line h i = n - i
 
-loop-holds : tie.Need-loop-init invariant-loop decreases-loop
+loop-holds : tie.Need-loop-i-init invariant-loop decreases-loop
 unfolding extended
 loop-holds c = record { holds = λ blank ring h. h; few = omega arith; most = omega arith; long = refl }
 
 place-requires : tie.Need-place-requires invariant-loop decreases-loop
 place-requires c κs = omega arith
 
-point-at-requires : tie.Need-point-at-requires invariant-loop decreases-loop
+point-at-requires : tie.Need-point_at-p-requires invariant-loop decreases-loop
 point-at-requires c κs = search rules
 
-add-point-requires : tie.Need-add-point-requires invariant-loop decreases-loop
+add-point-requires : tie.Need-add_point-h-requires invariant-loop decreases-loop
 add-point-requires c κs = omega arith
 
-add-i : tie.Need-overflow-add-i invariant-loop decreases-loop
+add-i : tie.Need-overflow_add-i invariant-loop decreases-loop
 add-i c = omega arith
 
-loop-less : tie.Need-loop-smaller invariant-loop decreases-loop
+loop-less : tie.Need-loop-i-smaller invariant-loop decreases-loop
 loop-less c = omega arith
 
-loop-again : tie.Need-loop-preserved invariant-loop decreases-loop
+loop-again : tie.Need-loop-i-preserved invariant-loop decreases-loop
 unfolding point_from
 loop-again c =
-    let at_point_at = c.before.before.before.before in
-    let at_loop = at_point_at.before.before.before in
-    let start = at_loop.before.before.before in
+    let at_point_at = c in
+    let at_loop = at_point_at in
+    let start = at_loop in
     let a = start.args in
-    let at = at_loop.loop in
-    let p = at_point_at.point_at.ensures ∙ ap (point_at a.s.now) at_point_at.before.place.ensures.0 in
+    let at = at_loop.loop-i in
+    let p = at_point_at.point_at-p.ensures ∙ ap (point_at a.s.now) at_point_at.place.ensures.0 in
     record {
       holds = λ blank ring h. rw (extended_next ring a.back a.s.now at.i, ← p)
-          (c.before.before.add-point.ensures.0 blank (extended ring a.back a.s.now at.i) (at.invariant.holds blank ring h));
-      few = omega (arith, c.before.before.add-point.ensures.1, at.invariant.few);
+          (c.add_point-h.ensures.0 blank (extended ring a.back a.s.now at.i) (at.invariant.holds blank ring h));
+      few = omega (arith, c.add_point-h.ensures.1, at.invariant.few);
       most = omega arith;
       long = omega (arith, at.invariant.long);
     }
 
-same_length : tie.Need-same-length invariant-loop decreases-loop
-same_length c = c.before.loop.invariant.long
+same_length : tie.Need-shape_of-line invariant-loop decreases-loop
+same_length c = c.loop-i.invariant.long
 
 returns : tie.Need-returns invariant-loop decreases-loop
 returns c =
-    let a = c.before.before.before.before.args in
-    let at = c.before.loop in
+    let a = c.args in
+    let at = c.loop-i in
     let e : at.i ≡ length a.s.now / 3 = omega (arith, at.invariant.most) in
     (rw e at at.invariant.holds, rw e at at.invariant.few)
 
-pub append-spec : {M : Type 1} → statement M
-append-spec =
+pub append_spec : {M : Type 1} → statement M
+append_spec =
     tie.close
     (tie.spec
     invariant-loop

@@ -19,8 +19,8 @@ min32-requires-2 c κs = search rules
 
 returns : tie.Need-returns
 unfolding nearness_of of_bits
-returns c = rw (c.min322.ensures, c.before.reach2.ensures, c.before.before.min32.ensures, c.before.before.before.reach.ensures)
+returns c = rw (c.min32-2.ensures, c.reach-2.ensures, c.min32.ensures, c.reach.ensures)
 
-pub nearness-spec : {M : Type 1} → statement M
-nearness-spec =
+pub nearness_spec : {M : Type 1} → statement M
+nearness_spec =
     tie.close (tie.spec reach-requires min32-requires reach-requires-2 min32-requires-2 returns)

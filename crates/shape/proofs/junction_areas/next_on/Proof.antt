@@ -4,19 +4,19 @@ use Rattle.shape.specs.Outline.{next_on}
 use Rattle.shape.proofs.junction_areas.next_on.Statement.{statement}
 use Rattle.shape.proofs.junction_areas.next_on.Tie as tie
 
-add-if1 : tie.Need-overflow-add-if1
+add-if1 : tie.Need-overflow_add-i
 add-if1 c = search rules
 
-add-result : tie.Need-overflow-add-result
+add-result : tie.Need-overflow_add-result
 add-result c = search rules
 
-returns : tie.Need-returns
+returns : tie.Need-returns-then-i-n
 unfolding next_on
-returns c = (rw (eq-eqb _ _ c.if1.true), omega arith)
+returns c = (rw (eq-eqb _ _ c.if-i-n.true), omega arith)
 
-returns-2 : tie.Need-returns-2
+returns-2 : tie.Need-returns-else-i-n
 unfolding next_on
-returns-2 c = (rw (ne_eqb _ _ c.if1.false), omega arith)
+returns-2 c = (rw (ne_eqb _ _ c.if-i-n.false), omega arith)
 
-pub next-on-spec : {M : Type 1} → statement M
-next-on-spec = tie.close (tie.spec add-if1 add-result returns returns-2)
+pub next_on_spec : {M : Type 1} → statement M
+next_on_spec = tie.close (tie.spec add-if1 add-result returns returns-2)

@@ -6,28 +6,28 @@ use Rattle.std.proofs.Common.{rules}
 use Rattle.shape.proofs.junction_areas.outline_fault.Statement.{statement}
 use Rattle.shape.proofs.junction_areas.outline_fault.Tie as tie
 
-outline-limits-requires : tie.Need-outline-limits-requires
+outline-limits-requires : tie.Need-outline_limits-requires
 outline-limits-requires c κs = search rules
 
-enum-known-r : tie.Need-enum-known-r
+enum-known-r : tie.Need-enum_known-r
 enum-known-r c = search rules
 
-enum_told : tie.Need-enum-told
+enum_told : tie.Need-enum_told-1
 enum_told c = search rules
 
-outline-ragged-requires : tie.Need-outline-ragged-requires
-outline-ragged-requires c κs = few_segments _ _ (none_told c.before.before.outline-limits.ensures c.enum_told.given.1)
+outline-ragged-requires : tie.Need-outline_ragged-requires
+outline-ragged-requires c κs = few_segments _ _ (none_told c.outline_limits.ensures c.in-Fine.is)
 
-returns : tie.Need-returns
+returns : tie.Need-returns-in-Faulty
 unfolding outline_fault
-returns c = else_faulty _ c.before.before.before.outline-limits.ensures c.before.r.given.1
+returns c = else_faulty _ c.outline_limits.ensures c.in-Faulty.is
 
-returns-2 : tie.Need-returns-2
+returns-2 : tie.Need-returns-in-Fine
 unfolding outline_fault
-returns-2 c = else_fine _ c.before.before.before.outline-limits.ensures c.before.enum_told.given.1 c.outline-ragged.ensures
+returns-2 c = else_fine _ c.outline_limits.ensures c.in-Fine.is c.outline_ragged.ensures
 
-pub outline-fault-spec : {M : Type 1} → statement M
-outline-fault-spec =
+pub outline_fault_spec : {M : Type 1} → statement M
+outline_fault_spec =
     tie.close
     (tie.spec
     outline-limits-requires

@@ -6,24 +6,24 @@ use Rattle.std.proofs.Common.{rules}
 use Rattle.shape.proofs.junction_areas.outline_limits.Statement.{statement}
 use Rattle.shape.proofs.junction_areas.outline_limits.Tie as tie
 
-mul-oversize-if : tie.Need-overflow-mul-oversize-if
+mul-oversize-if : tie.Need-overflow_mul-oversize_if
 mul-oversize-if c = search rules
 
-oversize-if-requires : tie.Need-oversize-if-requires
+oversize-if-requires : tie.Need-oversize_if-after-requires
 oversize-if-requires c κs = search rules
 
-mul-oversize-if-2 : tie.Need-overflow-mul-oversize-if-2
+mul-oversize-if-2 : tie.Need-overflow_mul-oversize_if-2
 mul-oversize-if-2 c = search rules
 
-oversize-if-requires-2 : tie.Need-oversize-if-requires-2
+oversize-if-requires-2 : tie.Need-oversize_if-requires
 oversize-if-requires-2 c κs = search rules
 
 returns : tie.Need-returns
 unfolding outline_limits longer found
-returns c = rw (c.oversize-if2.ensures, c.before.oversize-if.ensures)
+returns c = rw (c.oversize_if.ensures, c.oversize_if-after.ensures)
 
-pub outline-limits-spec : {M : Type 1} → statement M
-outline-limits-spec =
+pub outline_limits_spec : {M : Type 1} → statement M
+outline_limits_spec =
     tie.close
     (tie.spec
     mul-oversize-if

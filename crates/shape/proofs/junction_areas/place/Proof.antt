@@ -4,19 +4,19 @@ use Rattle.shape.specs.Outline.{place_from}
 use Rattle.shape.proofs.junction_areas.place.Statement.{statement}
 use Rattle.shape.proofs.junction_areas.place.Tie as tie
 
-add-result : tie.Need-overflow-add-result
+add-result : tie.Need-overflow_add-result
 add-result c = search rules
 
-sub-result : tie.Need-overflow-sub-result
+sub-result : tie.Need-overflow_sub-result
 sub-result c = search rules
 
-returns : tie.Need-returns
+returns : tie.Need-returns-then-back
 unfolding place_from
-returns c = (rw (c.if1.true, add-one), omega arith)
+returns c = (rw (c.if-back.true, add-one), omega arith)
 
-returns-2 : tie.Need-returns-2
+returns-2 : tie.Need-returns-else-back
 unfolding place_from
-returns-2 c = (rw c.if1.false, omega arith)
+returns-2 c = (rw c.if-back.false, omega arith)
 
-pub place-spec : {M : Type 1} → statement M
-place-spec = tie.close (tie.spec add-result sub-result returns returns-2)
+pub place_spec : {M : Type 1} → statement M
+place_spec = tie.close (tie.spec add-result sub-result returns returns-2)

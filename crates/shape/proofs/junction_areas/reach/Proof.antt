@@ -11,5 +11,5 @@ returns : tie.Need-returns
 unfolding reach_of
 returns c = c.hypot.ensures
 
-pub reach-spec : {M : Type 1} → statement M
-reach-spec = tie.close (tie.spec hypot-requires returns)
+pub reach_spec : {M : Type 1} → statement M
+reach_spec = tie.close (tie.spec hypot-requires returns)

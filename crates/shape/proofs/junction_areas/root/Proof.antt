@@ -12,7 +12,7 @@ narrow-requires c κs = search rules
 
 returns : tie.Need-returns
 unfolding rooted_of
-returns c = rw (c.narrow.ensures, c.before.sqrt64.ensures)
+returns c = rw (c.narrow.ensures, c.sqrt64.ensures)
 
-pub root-spec : {M : Type 1} → statement M
-root-spec = tie.close (tie.spec sqrt64-requires narrow-requires returns)
+pub root_spec : {M : Type 1} → statement M
+root_spec = tie.close (tie.spec sqrt64-requires narrow-requires returns)

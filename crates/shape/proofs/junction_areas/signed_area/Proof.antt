@@ -6,34 +6,34 @@ use Rattle.shape.proofs.Joining.{flat_count, area_next}
 use Rattle.shape.proofs.junction_areas.signed_area.Statement.{statement}
 use Rattle.shape.proofs.junction_areas.signed_area.Tie as tie
 
-abbrev invariant-loop : tie.invariant-loop
+abbrev invariant-loop : tie.invariant-loop-i
 invariant-loop ring n area₀ i₀ area i = ((line : List Point) → ring ≡ flat line → area ≡ area_to line (i - 1)) × (1 ≤ i) × (i - 1 ≤ n - 1)
 
-abbrev decreases-loop : tie.decreases-loop
+abbrev decreases-loop : tie.decreases-loop-i
 decreases-loop ring n area₀ i₀ area i = n - i
 
-side-at-requires : tie.Need-side-at-requires invariant-loop decreases-loop
+side-at-requires : tie.Need-side_at-area-requires invariant-loop decreases-loop
 side-at-requires c κs = omega arith
 
-loop-holds : tie.Need-loop-init invariant-loop decreases-loop
+loop-holds : tie.Need-loop-i-init invariant-loop decreases-loop
 unfolding area_to
-loop-holds c = (λ line e. c.side-at.ensures line e, omega arith, omega arith)
+loop-holds c = (λ line e. c.side_at-area.ensures line e, omega arith, omega arith)
 
-side-at-requires-2 : tie.Need-side-at-requires-2 invariant-loop decreases-loop
+side-at-requires-2 : tie.Need-side_at-area-requires-in-loop-i invariant-loop decreases-loop
 side-at-requires-2 c κs = omega arith
 
-add-i : tie.Need-overflow-add-i invariant-loop decreases-loop
+add-i : tie.Need-overflow_add-i invariant-loop decreases-loop
 add-i c = omega arith
 
-loop-less : tie.Need-loop-smaller invariant-loop decreases-loop
+loop-less : tie.Need-loop-i-smaller invariant-loop decreases-loop
 loop-less c = omega arith
 
-loop-again : tie.Need-loop-preserved invariant-loop decreases-loop
+loop-again : tie.Need-loop-i-preserved invariant-loop decreases-loop
 loop-again c = (
   λ line e. rw (
-    area_next line c.before.before.loop.i c.before.before.loop.invariant.1,
-    ← (c.before.before.loop.invariant.0 line e),
-    ← (c.side-at2.ensures line e),
+    area_next line c.loop-i.i c.loop-i.invariant.1,
+    ← (c.loop-i.invariant.0 line e),
+    ← (c.side_at-area-in-loop-i.ensures line e),
   ),
   omega arith,
   omega arith,
@@ -43,12 +43,12 @@ returns : tie.Need-returns invariant-loop decreases-loop
 unfolding area_of
 returns c =
     λ line e.
-    let k : c.before.loop.i - 1 ≡ length line - 1 =
-    omega (arith, c.before.loop.invariant.1, c.before.loop.invariant.2, flat_count line, ap length e) in
-    rw k at (c.before.loop.invariant.0 line e)
+    let k : c.loop-i.i - 1 ≡ length line - 1 =
+    omega (arith, c.loop-i.invariant.1, c.loop-i.invariant.2, flat_count line, ap length e) in
+    rw k at (c.loop-i.invariant.0 line e)
 
-pub signed-area-spec : {M : Type 1} → statement M
-signed-area-spec =
+pub signed_area_spec : {M : Type 1} → statement M
+signed_area_spec =
     tie.close
     (tie.spec
     invariant-loop

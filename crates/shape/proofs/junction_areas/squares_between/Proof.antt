@@ -11,5 +11,5 @@ returns : tie.Need-returns
 unfolding squares_between
 returns c = c.squares.ensures
 
-pub squares-between-spec : {M : Type 1} → statement M
-squares-between-spec = tie.close (tie.spec squares-requires returns)
+pub squares_between_spec : {M : Type 1} → statement M
+squares_between_spec = tie.close (tie.spec squares-requires returns)

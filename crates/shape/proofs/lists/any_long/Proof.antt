@@ -6,46 +6,46 @@ use Rattle.shape.specs.Laws.Gather.{any_next}
 use Rattle.shape.proofs.lists.any_long.Statement.{statement}
 use Rattle.shape.proofs.lists.any_long.Tie as tie
 
-abbrev invariant-loop : tie.invariant-loop
+abbrev invariant-loop : tie.invariant-loop-k
 invariant-loop ws width a limit m found₀ k₀ found k = (found ≡ any (run_long width a ws limit) k) × (k ≤ m)
 
-abbrev decreases-loop : tie.decreases-loop
+abbrev decreases-loop : tie.decreases-loop-k
 decreases-loop ws width a limit m found₀ k₀ found k = m - k
 
-loop-holds : tie.Need-loop-init invariant-loop decreases-loop
+loop-holds : tie.Need-loop-k-init invariant-loop decreases-loop
 unfolding any
 loop-holds c = (refl, omega arith)
 
-run-long-requires : tie.Need-run-long-requires invariant-loop decreases-loop
+run-long-requires : tie.Need-run_long-requires invariant-loop decreases-loop
 run-long-requires c κs = omega arith
 
-either-requires : tie.Need-either-requires invariant-loop decreases-loop
+either-requires : tie.Need-either-found-requires invariant-loop decreases-loop
 either-requires c κs = search rules
 
-add-k : tie.Need-overflow-add-k invariant-loop decreases-loop
+add-k : tie.Need-overflow_add-k invariant-loop decreases-loop
 add-k c = omega arith
 
-loop-less : tie.Need-loop-smaller invariant-loop decreases-loop
+loop-less : tie.Need-loop-k-smaller invariant-loop decreases-loop
 loop-less c = omega arith
 
-loop-again : tie.Need-loop-preserved invariant-loop decreases-loop
+loop-again : tie.Need-loop-k-preserved invariant-loop decreases-loop
 loop-again c =
-    let at_loop = c.before.before.before in
-    let start = at_loop.before.before in
+    let at_loop = c in
+    let start = at_loop in
     let a = start.args in (
       rw (
-        any_next (run_long a.width a.a a.ws.now a.limit) at_loop.loop.k,
-        ← at_loop.loop.invariant.0,
-        ← c.before.run_long.ensures,
-      ) c.either.ensures,
+        any_next (run_long a.width a.a a.ws.now a.limit) at_loop.loop-k.k,
+        ← at_loop.loop-k.invariant.0,
+        ← c.run_long.ensures,
+      ) c.either-found.ensures,
       omega arith,
     )
 
 returns : tie.Need-returns invariant-loop decreases-loop
-returns c = let e : c.before.loop.k ≡ c.before.before.before.args.m = omega (arith, c.before.loop.invariant.1) in rw e at c.before.loop.invariant.0
+returns c = let e : c.loop-k.k ≡ c.args.m = omega (arith, c.loop-k.invariant.1) in rw e at c.loop-k.invariant.0
 
-pub any-long-spec : {M : Type 1} → statement M
-any-long-spec =
+pub any_long_spec : {M : Type 1} → statement M
+any_long_spec =
     tie.close
     (tie.spec
     invariant-loop

@@ -5,22 +5,22 @@ use Rattle.shape.specs.Laws.Lists.{last_end_lem}
 use Rattle.shape.proofs.lists.last_end.Statement.{statement}
 use Rattle.shape.proofs.lists.last_end.Tie as tie
 
-returns : tie.Need-returns
+returns : tie.Need-returns-then-k-eq0
 unfolding last_end
-returns c = rw c.if1.true
+returns c = rw c.if-k-eq0.true
 
-sub-near-word : tie.Need-overflow-sub-near-word
+sub-near-word : tie.Need-overflow_sub-k
 sub-near-word c = search rules
 
-add-near-word : tie.Need-overflow-add-near-word
+add-near-word : tie.Need-overflow_add-a
 add-near-word c = search rules
 
-near-word-requires : tie.Need-near-word-requires
+near-word-requires : tie.Need-near_word-requires
 near-word-requires c κs = search rules
 
-returns-2 : tie.Need-returns-2
-returns-2 c = let a = c.before.before.before.args in c.Near-word.ensures.0 ∙ last_end_lem a.width a.a a.ws.now a.k c.before.if1.false
+returns-2 : tie.Need-returns
+returns-2 c = let a = c.args in c.near_word.ensures.0 ∙ last_end_lem a.width a.a a.ws.now a.k c.if-k-eq0.false
 
-pub last-end-spec : {M : Type 1} → statement M
-last-end-spec =
+pub last_end_spec : {M : Type 1} → statement M
+last_end_spec =
     tie.close (tie.spec returns sub-near-word add-near-word near-word-requires returns-2)

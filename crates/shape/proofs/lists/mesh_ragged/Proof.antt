@@ -5,31 +5,31 @@ use Rattle.shape.specs.Lists.{uneven, mesh_ragged}
 use Rattle.shape.proofs.lists.mesh_ragged.Statement.{statement}
 use Rattle.shape.proofs.lists.mesh_ragged.Tie as tie
 
-wide-requires : tie.Need-wide-requires
+wide-requires : tie.Need-wide-p-requires
 wide-requires c κs = search rules
 
-runs-rise-requires : tie.Need-runs-rise-requires
+runs-rise-requires : tie.Need-runs_rise-rise-requires
 runs-rise-requires c κs = search rules
 
-add-ragged-if : tie.Need-overflow-add-ragged-if
+add-ragged-if : tie.Need-overflow_add-p
 add-ragged-if c = search rules
 
-ragged-if-requires : tie.Need-ragged-if-requires
+ragged-if-requires : tie.Need-ragged_if-after-requires
 ragged-if-requires c κs = search rules
 
-add-ragged-if-2 : tie.Need-overflow-add-ragged-if-2
+add-ragged-if-2 : tie.Need-overflow_add-p-2
 add-ragged-if-2 c = search rules
 
-ragged-if-requires-2 : tie.Need-ragged-if-requires-2
+ragged-if-requires-2 : tie.Need-ragged_if-after-requires-2
 ragged-if-requires-2 c κs = search rules
 
-add-ragged-if-3 : tie.Need-overflow-add-ragged-if-3
+add-ragged-if-3 : tie.Need-overflow_add-p-3
 add-ragged-if-3 c = search rules
 
-ragged-if-requires-3 : tie.Need-ragged-if-requires-3
+ragged-if-requires-3 : tie.Need-ragged_if-after-requires-3
 ragged-if-requires-3 c κs = search rules
 
-ragged-if-requires-4 : tie.Need-ragged-if-requires-4
+ragged-if-requires-4 : tie.Need-ragged_if-requires
 ragged-if-requires-4 c κs = search rules
 
 -- one test tells of both kinds of run
@@ -42,20 +42,20 @@ both false false q = refl
 returns : tie.Need-returns
 unfolding mesh_ragged uneven found
 returns c =
-    let at_ragged_if = c.before.before.before in
-    let judged = at_ragged_if.before in
+    let at_ragged_if = c in
+    let judged = at_ragged_if in
     rw (
-      c.ragged-if4.ensures,
-      c.before.ragged-if3.ensures,
-      c.before.before.ragged-if2.ensures,
-      at_ragged_if.ragged-if.ensures,
-      judged.before.wide.ensures,
-      judged.runs-rise.ensures,
+      c.ragged_if.ensures,
+      c.ragged_if-after-3.ensures,
+      c.ragged_if-after-2.ensures,
+      at_ragged_if.ragged_if-after.ensures,
+      judged.wide-p.ensures,
+      judged.runs_rise-rise.ensures,
       both,
     )
 
-pub mesh-ragged-spec : {M : Type 1} → statement M
-mesh-ragged-spec =
+pub mesh_ragged_spec : {M : Type 1} → statement M
+mesh_ragged_spec =
     tie.close
     (tie.spec
     wide-requires

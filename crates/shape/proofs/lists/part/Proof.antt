@@ -4,31 +4,31 @@ use Rattle.shape.specs.Laws.Lists.{part_cut}
 use Rattle.shape.proofs.lists.part.Statement.{statement}
 use Rattle.shape.proofs.lists.part.Tie as tie
 
-least-requires : tie.Need-least-requires
+least-requires : tie.Need-least-to-requires
 least-requires c κs = search rules
 
-least-requires-2 : tie.Need-least-requires-2
+least-requires-2 : tie.Need-least-from-requires
 least-requires-2 c κs = search rules
 
-mul-result : tie.Need-overflow-mul-result
+mul-result : tie.Need-offset_bounds-xs-from
 mul-result c = search rules
 
-sub-result : tie.Need-overflow-sub-result
+sub-result : tie.Need-slice_bounds-result-count
 sub-result c = search rules
 
-part-result-start : tie.Need-slice-bounds-result-start
+part-result-start : tie.Need-slice_bounds-result-start
 part-result-start c = search rules
 
-part-result-end : tie.Need-slice-bounds-result-end
+part-result-end : tie.Need-slice_bounds-result-end
 part-result-end c = search rules
 
 returns : tie.Need-returns
 returns c =
-    let a = c.before.before.before.before.args in
-    rw (c.before.least2.ensures, c.before.before.least.ensures) (part_cut a.a a.e a.xs.now)
+    let a = c.args in
+    rw (c.least-from.ensures, c.least-to.ensures) (part_cut a.a a.e a.xs.now)
 
-pub part-spec : {M : Type 1} → statement M
-part-spec =
+pub part_spec : {M : Type 1} → statement M
+part_spec =
     tie.close
     (tie.spec
     least-requires

@@ -4,18 +4,18 @@ use Rattle.shape.specs.Lists.{point_at}
 use Rattle.shape.proofs.lists.point_at.Statement.{statement}
 use Rattle.shape.proofs.lists.point_at.Tie as tie
 
-whole-point-requires : tie.Need-whole-point-requires
+whole-point-requires : tie.Need-whole_point-requires
 whole-point-requires c κs = search rules
 
-returns : tie.Need-returns
+returns : tie.Need-returns-then-i-n
 returns c = search rules
 
-returns-2 : tie.Need-returns-2
+returns-2 : tie.Need-returns
 unfolding point_at
 returns-2 c =
-    let a = c.before.before.args in
-    let h : length a.xs.now ≤ 3 * a.i + 2 = omega (arith, c.if1.false) in
+    let a = c.args in
+    let h : length a.xs.now ≤ 3 * a.i + 2 = omega (arith, c.if-i-n.false) in
     simp (le-ltb _ _ h)
 
-pub point-at-spec : {M : Type 1} → statement M
-point-at-spec = tie.close (tie.spec whole-point-requires returns returns-2)
+pub point_at_spec : {M : Type 1} → statement M
+point_at_spec = tie.close (tie.spec whole-point-requires returns returns-2)

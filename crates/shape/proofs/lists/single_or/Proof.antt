@@ -6,17 +6,17 @@ use Rattle.shape.specs.Laws.Lists.{get_d_any}
 use Rattle.shape.proofs.lists.single_or.Statement.{statement}
 use Rattle.shape.proofs.lists.single_or.Tie as tie
 
-mul-result : tie.Need-overflow-mul-result
+mul-result : tie.Need-offset_bounds-xs-i
 mul-result c = search rules
 
-shared-slice-read-result : tie.Need-shared-slice-read-result
+shared-slice-read-result : tie.Need-bounds-xs-i
 shared-slice-read-result c = search rules
 
-returns : tie.Need-returns
-returns c = get_d_any c.before.before.args.xs.now c.before.before.args.i nan c.before.before.args.other c.before.if1.true
+returns : tie.Need-returns-then-i-xs
+returns c = get_d_any c.args.xs.now c.args.i nan c.args.other c.if-i-xs.true
 
-returns-2 : tie.Need-returns-2
-returns-2 c = sym (get_or-eq_default c.before.args.xs.now c.before.args.other c.if1.false)
+returns-2 : tie.Need-returns-else-i-xs
+returns-2 c = sym (get_or-eq_default c.args.xs.now c.args.other c.if-i-xs.false)
 
-pub single-or-spec : {M : Type 1} → statement M
-single-or-spec = tie.close (tie.spec mul-result shared-slice-read-result returns returns-2)
+pub single_or_spec : {M : Type 1} → statement M
+single_or_spec = tie.close (tie.spec mul-result shared-slice-read-result returns returns-2)

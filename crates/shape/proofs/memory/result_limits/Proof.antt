@@ -5,33 +5,33 @@ use Rattle.std.proofs.Common.{rules}
 use Rattle.shape.proofs.memory.result_limits.Statement.{statement}
 use Rattle.shape.proofs.memory.result_limits.Tie as tie
 
-mul-oversize-if : tie.Need-overflow-mul-oversize-if
+mul-oversize-if : tie.Need-overflow_mul-oversize_if
 mul-oversize-if c = search rules
 
-oversize-if-requires : tie.Need-oversize-if-requires
+oversize-if-requires : tie.Need-oversize_if-spans-requires
 oversize-if-requires c κs = search rules
 
-oversize-if-requires-2 : tie.Need-oversize-if-requires-2
+oversize-if-requires-2 : tie.Need-oversize_if-indices-requires
 oversize-if-requires-2 c κs = search rules
 
-mul-oversize-if-2 : tie.Need-overflow-mul-oversize-if-2
+mul-oversize-if-2 : tie.Need-overflow_mul-oversize_if-2
 mul-oversize-if-2 c = search rules
 
-oversize-if-requires-3 : tie.Need-oversize-if-requires-3
+oversize-if-requires-3 : tie.Need-oversize_if-normals-requires
 oversize-if-requires-3 c κs = search rules
 
-mul-oversize-if-3 : tie.Need-overflow-mul-oversize-if-3
+mul-oversize-if-3 : tie.Need-overflow_mul-oversize_if-3
 mul-oversize-if-3 c = search rules
 
-oversize-if-requires-4 : tie.Need-oversize-if-requires-4
+oversize-if-requires-4 : tie.Need-oversize_if-requires
 oversize-if-requires-4 c κs = search rules
 
 returns : tie.Need-returns
 unfolding result_limits found
 returns c = cc
 
-pub result-limits-spec : {M : Type 1} → statement M
-result-limits-spec =
+pub result_limits_spec : {M : Type 1} → statement M
+result_limits_spec =
     tie.close
     (tie.spec
     mul-oversize-if

@@ -5,28 +5,28 @@ use Rattle.std.proofs.Common.{rules}
 use Rattle.shape.proofs.memory.room_fault.Statement.{statement}
 use Rattle.shape.proofs.memory.room_fault.Tie as tie
 
-result-limits-requires : tie.Need-result-limits-requires
+result-limits-requires : tie.Need-result_limits-limits-requires
 result-limits-requires c κs = search rules
 
-enum-known-limits : tie.Need-enum-known-limits
+enum-known-limits : tie.Need-enum_known-limits
 enum-known-limits c = search rules
 
-enum_told : tie.Need-enum-told
+enum_told : tie.Need-enum_told-1
 enum_told c = search rules
 
-result-short-requires : tie.Need-result-short-requires
+result-short-requires : tie.Need-result_short-requires
 result-short-requires c κs = search rules
 
-returns : tie.Need-returns
+returns : tie.Need-returns-in-Faulty
 unfolding room_fault
-returns c = fault_first _ _ _ c.before.before.before.result-limits.ensures c.before.limits.given.1
+returns c = fault_first _ _ _ c.result_limits-limits.ensures c.in-Faulty.is
 
-returns-2 : tie.Need-returns-2
+returns-2 : tie.Need-returns-in-Fine
 unfolding room_fault
-returns-2 c = fault_then _ _ _ c.before.before.before.result-limits.ensures _ c.before.enum_told.given.1 c.result-short.ensures
+returns-2 c = fault_then _ _ _ c.result_limits-limits.ensures _ c.in-Fine.is c.result_short.ensures
 
-pub room-fault-spec : {M : Type 1} → statement M
-room-fault-spec =
+pub room_fault_spec : {M : Type 1} → statement M
+room_fault_spec =
     tie.close
     (tie.spec
     result-limits-requires

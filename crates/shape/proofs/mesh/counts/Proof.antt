@@ -8,5 +8,5 @@ returns : tie.Need-returns
 unfolding counts_of
 returns c = refl
 
-pub counts-spec : {M : Type 1} → statement M
-counts-spec = tie.close (tie.spec returns)
+pub counts_spec : {M : Type 1} → statement M
+counts_spec = tie.close (tie.spec returns)

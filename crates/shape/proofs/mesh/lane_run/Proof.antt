@@ -10,30 +10,30 @@ small u w h k =
     let m : w ≤ 2 ^ 32 = omega arith in
     omega (arith, mul-le-mul_left u m)
 
-record-word-requires : tie.Need-record-word-requires
+record-word-requires : tie.Need-record_word-requires
 record-word-requires c κs = search rules
 
-mul-s : tie.Need-overflow-mul-s
-mul-s c = record { fits = small c.before.before.before.args.u c.record-word.result c.before.before.before.requires.2 c.record-word.ensures.1 }
+mul-s : tie.Need-overflow_mul-s
+mul-s c = record { fits = small c.args.u c.record_word.result c.requires.2 c.record_word.ensures.1 }
 
-add-record-word : tie.Need-overflow-add-record-word
+add-record-word : tie.Need-overflow_add-a
 add-record-word c = search rules
 
-record-word-requires-2 : tie.Need-record-word-requires-2
+record-word-requires-2 : tie.Need-record_word-requires-2
 record-word-requires-2 c κs = search rules
 
-mul-e : tie.Need-overflow-mul-e
-mul-e c = record { fits = small c.before.before.before.before.args.u c.record-word2.result c.before.before.before.before.requires.2 c.record-word2.ensures.1 }
+mul-e : tie.Need-overflow_mul-e
+mul-e c = record { fits = small c.args.u c.record_word-2.result c.requires.2 c.record_word-2.ensures.1 }
 
 part-requires : tie.Need-part-requires
 part-requires c κs = search rules
 
 returns : tie.Need-returns
 unfolding lane_run run_of
-returns c = rw (c.part.ensures, c.before.record-word2.ensures.0, c.before.before.record-word.ensures.0)
+returns c = rw (c.part.ensures, c.record_word-2.ensures.0, c.record_word.ensures.0)
 
-pub lane-run-spec : {M : Type 1} → statement M
-lane-run-spec =
+pub lane_run_spec : {M : Type 1} → statement M
+lane_run_spec =
     tie.close
     (tie.spec
     record-word-requires

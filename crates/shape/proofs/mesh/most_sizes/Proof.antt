@@ -18,13 +18,13 @@ record Inv (ls : List ℕ) (n : ℕ) (at : At) (k : ℕ) : Type 0 where
   word : at.word ≤ 5 * k
   below : k ≤ n
 
-abbrev invariant-loop : tie.invariant-loop
+abbrev invariant-loop : tie.invariant-loop-k
 invariant-loop lanes n at₀ k₀ at k = Inv lanes n at k
 
-abbrev decreases-loop : tie.decreases-loop
+abbrev decreases-loop : tie.decreases-loop-k
 decreases-loop lanes n at₀ k₀ at k = n - k
 
-loop-holds : tie.Need-loop-init invariant-loop decreases-loop
+loop-holds : tie.Need-loop-k-init invariant-loop decreases-loop
 unfolding gather
 loop-holds c =
     record {
@@ -35,32 +35,32 @@ loop-holds c =
       below = omega arith;
     }
 
-most-lane-requires : tie.Need-most-lane-requires invariant-loop decreases-loop
+most-lane-requires : tie.Need-most_lane-at-requires invariant-loop decreases-loop
 most-lane-requires c κs =
-    let start = c.before.before.before in
-    let i = c.before.loop.invariant in
+    let start = c in
+    let i = c.loop-k.invariant in
     let a = start.args in (
-      omega (arith, start.requires.0, c.loop-test.true),
-      any_none (run_long 10 1 a.lanes.now 4096) c.before.loop.k a.n c.loop-test.true start.requires.1,
+      omega (arith, start.requires.0, c.loop-k-test.true),
+      any_none (run_long 10 1 a.lanes.now 4096) c.loop-k.k a.n c.loop-k-test.true start.requires.1,
       omega (arith, i, start.requires.0),
       omega (arith, i, start.requires.0),
       omega (arith, i, start.requires.0),
     )
 
-add-k : tie.Need-overflow-add-k invariant-loop decreases-loop
+add-k : tie.Need-overflow_add-k invariant-loop decreases-loop
 add-k c = omega arith
 
-loop-less : tie.Need-loop-smaller invariant-loop decreases-loop
+loop-less : tie.Need-loop-k-smaller invariant-loop decreases-loop
 loop-less c = omega arith
 
-loop-again : tie.Need-loop-preserved invariant-loop decreases-loop
+loop-again : tie.Need-loop-k-preserved invariant-loop decreases-loop
 loop-again c =
-    let start = c.before.before.before.before in
-    let i = c.before.before.loop.invariant in
-    let t = c.most-lane.ensures in
+    let start = c in
+    let i = c.loop-k.invariant in
+    let t = c.most_lane-at.ensures in
     record {
-      enough = λ ps ts ws bs. next_enough (given ps ts ws bs start.args.lanes.now) c.before.before.loop.k
-          c.before.before.loop.at c.most-lane.result (i.enough ps ts ws bs) t;
+      enough = λ ps ts ws bs. next_enough (given ps ts ws bs start.args.lanes.now) c.loop-k.k
+          c.loop-k.at c.most_lane-at.result (i.enough ps ts ws bs) t;
       floats = omega (arith, i.floats, t.floats, t.few);
       index = omega (arith, i.index, t.index, t.few);
       word = omega (arith, i.word, t.word);
@@ -68,9 +68,9 @@ loop-again c =
     }
 
 returns : tie.Need-returns invariant-loop decreases-loop
-returns c = let e : c.before.loop.k ≡ c.before.before.before.args.n = omega (arith, c.before.loop.invariant.below) in rw e at c.before.loop.invariant.enough
+returns c = let e : c.loop-k.k ≡ c.args.n = omega (arith, c.loop-k.invariant.below) in rw e at c.loop-k.invariant.enough
 
-pub most-sizes-spec : {M : Type 1} → statement M
-most-sizes-spec =
+pub most_sizes_spec : {M : Type 1} → statement M
+most_sizes_spec =
     tie.close
     (tie.spec invariant-loop decreases-loop loop-holds most-lane-requires add-k loop-less loop-again returns)

@@ -5,36 +5,36 @@ use Rattle.std.proofs.Common.{rules}
 use Rattle.shape.proofs.mesh.runs_ragged.Statement.{statement}
 use Rattle.shape.proofs.mesh.runs_ragged.Tie as tie
 
-any-bad-requires : tie.Need-any-bad-requires
+any-bad-requires : tie.Need-any_bad-requires
 any-bad-requires c κs = search rules
 
-ragged-if-requires : tie.Need-ragged-if-requires
+ragged-if-requires : tie.Need-ragged_if-of_banks-requires
 ragged-if-requires c κs = search rules
 
-any-bad-requires-2 : tie.Need-any-bad-requires-2
+any-bad-requires-2 : tie.Need-any_bad-requires-2
 any-bad-requires-2 c κs = search rules
 
-ragged-if-requires-2 : tie.Need-ragged-if-requires-2
+ragged-if-requires-2 : tie.Need-ragged_if-of_widths-requires
 ragged-if-requires-2 c κs = search rules
 
-any-bad-requires-3 : tie.Need-any-bad-requires-3
+any-bad-requires-3 : tie.Need-any_bad-requires-3
 any-bad-requires-3 c κs = search rules
 
-ragged-if-requires-3 : tie.Need-ragged-if-requires-3
+ragged-if-requires-3 : tie.Need-ragged_if-of_tangents-requires
 ragged-if-requires-3 c κs = search rules
 
-any-bad-requires-4 : tie.Need-any-bad-requires-4
+any-bad-requires-4 : tie.Need-any_bad-requires-4
 any-bad-requires-4 c κs = search rules
 
-ragged-if-requires-4 : tie.Need-ragged-if-requires-4
+ragged-if-requires-4 : tie.Need-ragged_if-requires
 ragged-if-requires-4 c κs = search rules
 
 returns : tie.Need-returns
 unfolding runs_ragged found
 returns c = cc
 
-pub runs-ragged-spec : {M : Type 1} → statement M
-runs-ragged-spec =
+pub runs_ragged_spec : {M : Type 1} → statement M
+runs_ragged_spec =
     tie.close
     (tie.spec
     any-bad-requires

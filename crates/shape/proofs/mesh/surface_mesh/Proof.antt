@@ -7,74 +7,74 @@ use Rattle.shape.proofs.Meshing.{few_lanes, input_fine, fitting, made, turned_ba
 use Rattle.shape.proofs.mesh.surface_mesh.Statement.{statement}
 use Rattle.shape.proofs.mesh.surface_mesh.Tie as tie
 
-call-fault-requires : tie.Need-call-fault-requires
+call-fault-requires : tie.Need-call_fault-f-requires
 call-fault-requires c κs = search rules
 
-enum-known-f : tie.Need-enum-known-f
+enum-known-f : tie.Need-enum_known-f
 enum-known-f c = search rules
 
-enum_told : tie.Need-enum-told
+enum_told : tie.Need-enum_told-1
 enum_told c = search rules
 
-put-lanes-requires : tie.Need-put-lanes-requires
+put-lanes-requires : tie.Need-put_lanes-at-requires
 unfolding found
 put-lanes-requires c κs =
-    let told = c.before.before.before.before in
-    let call = told.before.before in
-    let at_shared_slice_known5 = call.before.before.before.before.before in
-    let start = at_shared_slice_known5.before.before.before.before.before in
+    let told = c in
+    let call = told in
+    let at_shared_slice_known5 = call in
+    let start = at_shared_slice_known5 in
     let a = start.args in
     let g = given a.points.now a.tangents.now a.widths.now a.banks.now a.lanes.now in
-    let e = sym call.call-fault.ensures ∙ ap found told.enum_told.given.1 in (
+    let e = sym call.call_fault-f.ensures ∙ ap found told.in-Fine.is in (
       few_lanes g (input_fine g a.vertices.now a.normals.now a.indices.now a.spans.now e),
       fitting g a.vertices.now a.normals.now a.indices.now a.spans.now e,
     )
 
-lengths-at-requires : tie.Need-lengths-at-requires
+lengths-at-requires : tie.Need-lengths_at-requires
 lengths-at-requires c κs = search rules
 
 counts-requires : tie.Need-counts-requires
 counts-requires c κs = search rules
 
-returns : tie.Need-returns
+returns : tie.Need-returns-in-Faulty
 returns c =
-    let call = c.before.before.before in
-    let at_shared_slice_known5 = call.before.before.before.before.before in
-    let start = at_shared_slice_known5.before.before.before.before.before in
+    let call = c in
+    let at_shared_slice_known5 = call in
+    let start = at_shared_slice_known5 in
     let a = start.args in
     let g = given a.points.now a.tangents.now a.widths.now a.banks.now a.lanes.now in
     turned_back g (mesh_lists a.vertices.now a.normals.now a.indices.now a.spans.now) _
-    (sym call.call-fault.ensures ∙ ap found c.before.f.given.1)
+    (sym call.call_fault-f.ensures ∙ ap found c.in-Faulty.is)
 
-same_length : tie.Need-same-length
+same_length : tie.Need-shape_of-vertices
 same_length c = search rules
 
-same-length-2 : tie.Need-same-length-2
+same-length-2 : tie.Need-shape_of-normals
 same-length-2 c = search rules
 
-same-length-3 : tie.Need-same-length-3
+same-length-3 : tie.Need-shape_of-indices
 same-length-3 c = search rules
 
-same-length-4 : tie.Need-same-length-4
+same-length-4 : tie.Need-shape_of-spans
 same-length-4 c = search rules
 
-returns-2 : tie.Need-returns-2
+returns-2 : tie.Need-returns-in-Fine
 unfolding found
 returns-2 c =
-    let at_indices = c.before.before.before.before.before in
-    let put = at_indices.before.before.before.before.before in
-    let told = put.before.before.before.before.before in
-    let call = told.before.before in
-    let at_shared_slice_known5 = call.before.before.before.before.before in
-    let start = at_shared_slice_known5.before.before.before.before.before in
+    let at_indices = c in
+    let put = at_indices in
+    let told = put in
+    let call = told in
+    let at_shared_slice_known5 = call in
+    let start = at_shared_slice_known5 in
     let a = start.args in
     let g = given a.points.now a.tangents.now a.widths.now a.banks.now a.lanes.now in
-    let e = sym call.call-fault.ensures ∙ ap found told.enum_told.given.1 in
-    made g a.vertices.now a.normals.now a.indices.now a.spans.now e put.put-lanes.result c.counts.result
-    (c.counts.ensures ∙ ap counts_of c.before.lengths-at.ensures) put.put-lanes.ensures
+    let e = sym call.call_fault-f.ensures ∙ ap found told.in-Fine.is in
+    made g a.vertices.now a.normals.now a.indices.now a.spans.now e put.put_lanes-at.result c.counts.result
+    (c.counts.ensures ∙ ap counts_of c.lengths_at.ensures) put.put_lanes-at.ensures
 
-pub surface-mesh-spec : {M : Type 1} → statement M
-surface-mesh-spec =
+pub surface_mesh_spec : {M : Type 1} → statement M
+surface_mesh_spec =
     tie.close
     (tie.spec
     call-fault-requires

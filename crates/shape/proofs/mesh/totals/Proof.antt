@@ -19,49 +19,49 @@ record Inv (g : Given) (n : ℕ) (kept : List ℕ) (at : At) (k : ℕ) : Type 0 
   word : at.word ≤ 5 * k
   most : k ≤ n
 
-abbrev invariant-loop : tie.invariant-loop
+abbrev invariant-loop : tie.invariant-loop-k
 invariant-loop points tangents widths banks lanes n kept₀ at₀ k₀ kept at k = Inv (given points tangents widths banks lanes) n kept at k
 
-abbrev decreases-loop : tie.decreases-loop
+abbrev decreases-loop : tie.decreases-loop-k
 decreases-loop points tangents widths banks lanes n kept₀ at₀ k₀ kept at k = n - k
 
-loop-holds : tie.Need-loop-init invariant-loop decreases-loop
+loop-holds : tie.Need-loop-k-init invariant-loop decreases-loop
 unfolding gather
 loop-holds c = record { sizes = record { floats = refl; index = refl; word = refl }; room = blank_length; floats = omega arith; index = omega arith; word = omega arith; most = omega arith }
 
-slice-aggregate-size-lane : tie.Need-slice-aggregate-size-lane invariant-loop decreases-loop
-slice-aggregate-size-lane c = omega (arith, c.before.before.loop.invariant.room)
+slice-aggregate-size-lane : tie.Need-slice_bounds-size_lane-end invariant-loop decreases-loop
+slice-aggregate-size-lane c = omega (arith, c.loop-k.invariant.room)
 
-size-lane-requires : tie.Need-size-lane-requires invariant-loop decreases-loop
+size-lane-requires : tie.Need-size_lane-at-requires invariant-loop decreases-loop
 size-lane-requires c κs =
-    let start = c.before.before.before.before.before.before.before.before in
-    let i = c.before.before.loop.invariant in
+    let start = c in
+    let i = c.loop-k.invariant in
     let a = start.args in (
-      omega (arith, start.requires.0, c.before.loop-test.true),
-      any_none (run_long 10 1 a.lanes.now 4096) c.before.before.loop.k a.n c.before.loop-test.true start.requires.1,
+      omega (arith, start.requires.0, c.loop-k-test.true),
+      any_none (run_long 10 1 a.lanes.now 4096) c.loop-k.k a.n c.loop-k-test.true start.requires.1,
       i.room,
       omega (arith, i, start.requires.0),
       omega (arith, i, start.requires.0),
       omega (arith, i, start.requires.0),
     )
 
-add-k : tie.Need-overflow-add-k invariant-loop decreases-loop
+add-k : tie.Need-overflow_add-k invariant-loop decreases-loop
 add-k c = omega arith
 
-loop-less : tie.Need-loop-smaller invariant-loop decreases-loop
+loop-less : tie.Need-loop-k-smaller invariant-loop decreases-loop
 loop-less c = omega arith
 
-loop-again : tie.Need-loop-preserved invariant-loop decreases-loop
+loop-again : tie.Need-loop-k-preserved invariant-loop decreases-loop
 loop-again c =
-    let at_loop = c.before.before.before.before in
-    let start = at_loop.before.before.before.before.before.before in
+    let at_loop = c in
+    let start = at_loop in
     let a = start.args in
     let g = given a.points.now a.tangents.now a.widths.now a.banks.now a.lanes.now in
-    let i = at_loop.loop.invariant in
-    let n = c.before.size-lane.ensures in
+    let i = at_loop.loop-k.invariant in
+    let n = c.size_lane-at.ensures in
     record {
-      sizes = next_sizes g at_loop.loop.k at_loop.loop.at c.before.size-lane.result i.sizes n;
-      room = omega (arith, c.before.size-lane.auto, i.room);
+      sizes = next_sizes g at_loop.loop-k.k at_loop.loop-k.at c.size_lane-at.result i.sizes n;
+      room = omega (arith, c.size_lane-at.kept, i.room);
       floats = omega (arith, i.floats, n.few_floats);
       index = omega (arith, i.index, n.few_index);
       word = omega (arith, i.word, n.few_words);
@@ -70,12 +70,12 @@ loop-again c =
 
 returns : tie.Need-returns invariant-loop decreases-loop
 returns c =
-    let start = c.before.before.before.before.before.before.before in
-    let e : c.before.loop.k ≡ start.args.n = omega (arith, c.before.loop.invariant.most) in
-    rw e at c.before.loop.invariant.sizes
+    let start = c in
+    let e : c.loop-k.k ≡ start.args.n = omega (arith, c.loop-k.invariant.most) in
+    rw e at c.loop-k.invariant.sizes
 
-pub totals-spec : {M : Type 1} → statement M
-totals-spec =
+pub totals_spec : {M : Type 1} → statement M
+totals_spec =
     tie.close
     (tie.spec
     invariant-loop

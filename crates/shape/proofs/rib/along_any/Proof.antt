@@ -5,41 +5,41 @@ use Rattle.std.proofs.Common.{rules}
 use Rattle.shape.proofs.rib.along_any.Statement.{statement}
 use Rattle.shape.proofs.rib.along_any.Tie as tie
 
-length-requires : tie.Need-length-requires
+length-requires : tie.Need-length-len-requires
 length-requires c κs = search rules
 
-is-finite32-requires : tie.Need-is-finite32-requires
+is-finite32-requires : tie.Need-is_finite32-requires
 is-finite32-requires c κs = search rules
 
 mul-requires : tie.Need-mul-requires
 mul-requires c κs = search rules
 
-returns : tie.Need-returns
+returns : tie.Need-returns-then-len
 unfolding normalize_or of_bits
 returns c =
-    let at_is_finite32 = c.before.before.before in
-    rw (← at_is_finite32.before.length.ensures, ← at_is_finite32.is-finite32.ensures, c.before.before.if1.true, c.before.if2.true)
+    let at_is_finite32 = c in
+    rw (← at_is_finite32.length-len.ensures, ← at_is_finite32.is_finite32.ensures, c.if-is_finite32.true, c.if-len.true)
     c.mul.ensures
 
 bisector-requires : tie.Need-bisector-requires
 bisector-requires c κs = search rules
 
-returns-2 : tie.Need-returns-2
+returns-2 : tie.Need-returns-then-is_finite32
 unfolding normalize_or of_bits
 returns-2 c =
-    let at_is_finite32 = c.before.before.before in
-    rw (← at_is_finite32.before.length.ensures, ← at_is_finite32.is-finite32.ensures, c.before.before.if1.true, c.before.if2.false)
+    let at_is_finite32 = c in
+    rw (← at_is_finite32.length-len.ensures, ← at_is_finite32.is_finite32.ensures, c.if-is_finite32.true, c.if-len.false)
     c.bisector.ensures
 
 bisector-requires-2 : tie.Need-bisector-requires-2
 bisector-requires-2 c κs = search rules
 
-returns-3 : tie.Need-returns-3
+returns-3 : tie.Need-returns
 unfolding normalize_or of_bits
-returns-3 c = rw (← c.before.before.before.length.ensures, ← c.before.before.is-finite32.ensures, c.before.if1.false) c.bisector2.ensures
+returns-3 c = rw (← c.length-len.ensures, ← c.is_finite32.ensures, c.if-is_finite32.false) c.bisector-2.ensures
 
-pub along-any-spec : {M : Type 1} → statement M
-along-any-spec =
+pub along_any_spec : {M : Type 1} → statement M
+along_any_spec =
     tie.close
     (tie.spec
     length-requires

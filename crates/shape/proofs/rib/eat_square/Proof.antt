@@ -8,7 +8,7 @@ use Rattle.shape.proofs.rib.eat_square.Tie as tie
 dot-requires : tie.Need-dot-requires
 dot-requires c κs = search rules
 
-clamp32-requires : tie.Need-clamp32-requires
+clamp32-requires : tie.Need-clamp32-cos_turn-requires
 clamp32-requires c κs = search rules
 
 max32-requires : tie.Need-max32-requires
@@ -16,7 +16,7 @@ max32-requires c κs = search rules
 
 returns : tie.Need-returns
 unfolding eat_square_of of_bits
-returns c = rw (c.max32.ensures, c.before.clamp32.ensures, c.before.before.dot.ensures)
+returns c = rw (c.max32.ensures, c.clamp32-cos_turn.ensures, c.dot.ensures)
 
-pub eat-square-spec : {M : Type 1} → statement M
-eat-square-spec = tie.close (tie.spec dot-requires clamp32-requires max32-requires returns)
+pub eat_square_spec : {M : Type 1} → statement M
+eat_square_spec = tie.close (tie.spec dot-requires clamp32-requires max32-requires returns)

@@ -4,12 +4,12 @@ use Rattle.std.proofs.Common.{rules}
 use Rattle.shape.proofs.rib.half_at.Statement.{statement}
 use Rattle.shape.proofs.rib.half_at.Tie as tie
 
-single-or-requires : tie.Need-single-or-requires
+single-or-requires : tie.Need-single_or-requires
 single-or-requires c κs = search rules
 
 returns : tie.Need-returns
 unfolding half_of
-returns c = rw c.single-or.ensures
+returns c = rw c.single_or.ensures
 
-pub half-at-spec : {M : Type 1} → statement M
-half-at-spec = tie.close (tie.spec single-or-requires returns)
+pub half_at_spec : {M : Type 1} → statement M
+half_at_spec = tie.close (tie.spec single-or-requires returns)

@@ -5,30 +5,30 @@ use Rattle.std.proofs.Common.{rules}
 use Rattle.shape.proofs.rib.lateral.Statement.{statement}
 use Rattle.shape.proofs.rib.lateral.Tie as tie
 
-mul-single-or : tie.Need-overflow-mul-single-or
+mul-single-or : tie.Need-overflow_mul-k
 mul-single-or c = search rules
 
-single-or-requires : tie.Need-single-or-requires
+single-or-requires : tie.Need-single_or-sin-requires
 single-or-requires c κs = search rules
 
-mul-single-or-2 : tie.Need-overflow-mul-single-or-2
+mul-single-or-2 : tie.Need-overflow_mul-k-2
 mul-single-or-2 c = search rules
 
-add-single-or : tie.Need-overflow-add-single-or
+add-single-or : tie.Need-overflow_add-k
 add-single-or c = search rules
 
-single-or-requires-2 : tie.Need-single-or-requires-2
+single-or-requires-2 : tie.Need-single_or-cos-requires
 single-or-requires-2 c κs = search rules
 
-rotate-about-requires : tie.Need-rotate-about-requires
+rotate-about-requires : tie.Need-rotate_about-requires
 rotate-about-requires c κs = search rules
 
 returns : tie.Need-returns
 unfolding lateral_of of_bits
-returns c = rw (c.rotate-about.ensures, c.before.single-or2.ensures, c.before.before.single-or.ensures)
+returns c = rw (c.rotate_about.ensures, c.single_or-cos.ensures, c.single_or-sin.ensures)
 
-pub lateral-spec : {M : Type 1} → statement M
-lateral-spec =
+pub lateral_spec : {M : Type 1} → statement M
+lateral_spec =
     tie.close
     (tie.spec
     mul-single-or

@@ -4,34 +4,34 @@ use Rattle.shape.specs.Strip.{leg_out}
 use Rattle.shape.proofs.rib.leg_out.Statement.{statement}
 use Rattle.shape.proofs.rib.leg_out.Tie as tie
 
-add-if1 : tie.Need-overflow-add-if1
+add-if1 : tie.Need-overflow_add-i
 add-if1 c = search rules
 
-kept-point-requires : tie.Need-kept-point-requires
+kept-point-requires : tie.Need-kept_point-requires
 kept-point-requires c κs = search rules
 
-add-kept-point : tie.Need-overflow-add-kept-point
+add-kept-point : tie.Need-overflow_add-i-then-i-ks
 add-kept-point c = search rules
 
-kept-point-requires-2 : tie.Need-kept-point-requires-2
+kept-point-requires-2 : tie.Need-kept_point-requires-then-i-ks
 kept-point-requires-2 c κs = search rules
 
-leg-between-requires : tie.Need-leg-between-requires
+leg-between-requires : tie.Need-leg_between-requires
 leg-between-requires c κs = search rules
 
-returns : tie.Need-returns
+returns : tie.Need-returns-then-i-ks
 unfolding leg_out
-returns c = rw (c.leg-between.ensures, c.before.kept-point2.ensures, c.before.before.kept-point.ensures, lt-ltb _ _ c.before.before.before.if1.true)
+returns c = rw (c.leg_between.ensures, c.kept_point-then-i-ks.ensures, c.kept_point.ensures, lt-ltb _ _ c.if-i-ks.true)
 
-no-leg-requires : tie.Need-no-leg-requires
+no-leg-requires : tie.Need-no_leg-requires
 no-leg-requires c κs = search rules
 
-returns-2 : tie.Need-returns-2
+returns-2 : tie.Need-returns
 unfolding leg_out
-returns-2 c = rw (c.no-leg.ensures, le-ltb _ _ c.before.if1.false)
+returns-2 c = rw (c.no_leg.ensures, le-ltb _ _ c.if-i-ks.false)
 
-pub leg-out-spec : {M : Type 1} → statement M
-leg-out-spec =
+pub leg_out_spec : {M : Type 1} → statement M
+leg_out_spec =
     tie.close
     (tie.spec
     add-if1

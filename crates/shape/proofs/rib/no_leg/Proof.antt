@@ -9,5 +9,5 @@ returns : tie.Need-returns
 unfolding no_leg zero_vector
 returns c = refl
 
-pub no-leg-spec : {M : Type 1} → statement M
-no-leg-spec = tie.close (tie.spec returns)
+pub no_leg_spec : {M : Type 1} → statement M
+no_leg_spec = tie.close (tie.spec returns)

@@ -6,46 +6,46 @@ use Rattle.shape.proofs.Strips.{rib_made}
 use Rattle.shape.proofs.rib.rib_at.Statement.{statement}
 use Rattle.shape.proofs.rib.rib_at.Tie as tie
 
-word-at-requires : tie.Need-word-at-requires
+word-at-requires : tie.Need-word_at-k-requires
 word-at-requires c κs = search rules
 
-kept-point-requires : tie.Need-kept-point-requires
+kept-point-requires : tie.Need-kept_point-p-requires
 kept-point-requires c κs = search rules
 
-along-requires : tie.Need-along-requires
+along-requires : tie.Need-along-way-requires
 along-requires c κs = search rules
 
-left-normal-requires : tie.Need-left-normal-requires
+left-normal-requires : tie.Need-left_normal-left-requires
 left-normal-requires c κs = search rules
 
-lateral-requires : tie.Need-lateral-requires
+lateral-requires : tie.Need-lateral-across-requires
 lateral-requires c κs = search rules
 
-add-both : tie.Need-overflow-add-both
+add-both : tie.Need-overflow_add-i
 add-both c = search rules
 
-both-requires : tie.Need-both-requires
+both-requires : tie.Need-both-corner-requires
 both-requires c κs = search rules
 
-half-at-requires : tie.Need-half-at-requires
+half-at-requires : tie.Need-half_at-requires
 half-at-requires c κs = search rules
 
-spread-at-requires : tie.Need-spread-at-requires
+spread-at-requires : tie.Need-spread_at-m-requires
 spread-at-requires c κs = search rules
 
-index-before-requires : tie.Need-index-before-requires
+index-before-requires : tie.Need-index_before-requires
 index-before-requires c κs = search rules
 
-kept-point-requires-2 : tie.Need-kept-point-requires-2
+kept-point-requires-2 : tie.Need-kept_point-a-requires
 kept-point-requires-2 c κs = search rules
 
-index-after-requires : tie.Need-index-after-requires
+index-after-requires : tie.Need-index_after-requires
 index-after-requires c κs =
-    let at_along = c.before.before.before.before.before.before.before in
-    let start = at_along.before.before.before.before.before.before.before.before in
+    let at_along = c in
+    let start = at_along in
     omega (arith, start.requires.0)
 
-kept-point-requires-3 : tie.Need-kept-point-requires-3
+kept-point-requires-3 : tie.Need-kept_point-b-requires
 kept-point-requires-3 c κs = search rules
 
 mul-requires : tie.Need-mul-requires
@@ -57,7 +57,7 @@ add-requires c κs = search rules
 mul-requires-2 : tie.Need-mul-requires-2
 mul-requires-2 c κs = search rules
 
-sub-vector-requires : tie.Need-sub-vector-requires
+sub-vector-requires : tie.Need-sub_vector-requires
 sub-vector-requires c κs = search rules
 
 slope-requires : tie.Need-slope-requires
@@ -66,38 +66,38 @@ slope-requires c κs = search rules
 cross-requires : tie.Need-cross-requires
 cross-requires c κs = search rules
 
-normalize-or-requires : tie.Need-normalize-or-requires
+normalize-or-requires : tie.Need-normalize_or-requires
 normalize-or-requires c κs = search rules
 
 returns : tie.Need-returns
 unfolding up_vector
 returns c =
-    let at_sub_vector = c.before.before.before in
-    let at_mul = at_sub_vector.before.before.before in
-    let at_kept_point2 = at_mul.before.before.before in
-    let at_half_at = at_kept_point2.before.before.before in
-    let at_left_normal = at_half_at.before.before.before in
-    let at_word_at = at_left_normal.before.before.before in
-    let start = at_word_at.before.before.before.before.before.before in
+    let at_sub_vector = c in
+    let at_mul = at_sub_vector in
+    let at_kept_point2 = at_mul in
+    let at_half_at = at_kept_point2 in
+    let at_left_normal = at_half_at in
+    let at_word_at = at_left_normal in
+    let start = at_word_at in
     let a = start.args in
     let l = lane_of a.points.now a.tangents.now a.widths.now a.banks.now a.width in
     rw (
-      c.normalize-or.ensures,
-      c.before.cross.ensures,
-      at_sub_vector.sub-vector.ensures,
-      at_sub_vector.before.mul2.ensures,
-      at_sub_vector.before.before.add.ensures,
+      c.normalize_or.ensures,
+      c.cross.ensures,
+      at_sub_vector.sub_vector.ensures,
+      at_sub_vector.mul-2.ensures,
+      at_sub_vector.add.ensures,
       at_mul.mul.ensures,
-    ) (rib_made l a.ks.now a.i at_word_at.word-at.ensures.0 at_left_normal.before.before.kept-point.ensures start.requires.1
-    start.requires.2 at_left_normal.before.along.ensures at_left_normal.left-normal.ensures
-    at_half_at.before.before.lateral.ensures at_half_at.before.both.ensures at_half_at.half_at.ensures
-    at_kept_point2.before.before.spread_at.ensures
-    (at_kept_point2.kept-point2.ensures ∙ ap (kept_point a.points.now a.ks.now) at_kept_point2.before.index-before.ensures)
-    (at_mul.before.kept-point3.ensures ∙ ap (kept_point a.points.now a.ks.now) at_mul.before.before.index-after.ensures)
-    c.before.before.slope.ensures)
+    ) (rib_made l a.ks.now a.i at_word_at.word_at-k.ensures.0 at_left_normal.kept_point-p.ensures start.requires.1
+    start.requires.2 at_left_normal.along-way.ensures at_left_normal.left_normal-left.ensures
+    at_half_at.lateral-across.ensures at_half_at.both-corner.ensures at_half_at.half_at.ensures
+    at_kept_point2.spread_at-m.ensures
+    (at_kept_point2.kept_point-a.ensures ∙ ap (kept_point a.points.now a.ks.now) at_kept_point2.index_before.ensures)
+    (at_mul.kept_point-b.ensures ∙ ap (kept_point a.points.now a.ks.now) at_mul.index_after.ensures)
+    c.slope.ensures)
 
-pub rib-at-spec : {M : Type 1} → statement M
-rib-at-spec =
+pub rib_at_spec : {M : Type 1} → statement M
+rib_at_spec =
     tie.close
     (tie.spec
     word-at-requires

@@ -14,13 +14,13 @@ mul-requires c κs = search rules
 add-requires : tie.Need-add-requires
 add-requires c κs = search rules
 
-normalize-or-requires : tie.Need-normalize-or-requires
+normalize-or-requires : tie.Need-normalize_or-requires
 normalize-or-requires c κs = search rules
 
 returns : tie.Need-returns
 unfolding slope_of up_vector
-returns c = rw (c.normalize-or.ensures, c.before.add.ensures, c.before.before.mul.ensures, c.before.before.before.grade.ensures)
+returns c = rw (c.normalize_or.ensures, c.add.ensures, c.mul.ensures, c.grade.ensures)
 
-pub slope-spec : {M : Type 1} → statement M
-slope-spec =
+pub slope_spec : {M : Type 1} → statement M
+slope_spec =
     tie.close (tie.spec grade-requires mul-requires add-requires normalize-or-requires returns)

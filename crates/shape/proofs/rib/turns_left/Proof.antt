@@ -13,7 +13,7 @@ dot-requires c κs = search rules
 
 returns : tie.Need-returns
 unfolding turns_left of_bits
-returns c = rw (c.dot.ensures, c.before.sub.ensures)
+returns c = rw (c.dot.ensures, c.sub.ensures)
 
-pub turns-left-spec : {M : Type 1} → statement M
-turns-left-spec = tie.close (tie.spec sub-requires dot-requires returns)
+pub turns_left_spec : {M : Type 1} → statement M
+turns_left_spec = tie.close (tie.spec sub-requires dot-requires returns)

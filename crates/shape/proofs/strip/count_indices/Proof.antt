@@ -15,88 +15,88 @@ record Inv (l : Lane) (ks : List ℕ) (w : Walk) (q i : ℕ) : Type 0 where
   most : i ≤ length ks - 1
   few : q ≤ 6 * i
 
-abbrev invariant-loop : tie.invariant-loop
+abbrev invariant-loop : tie.invariant-loop-i
 invariant-loop points tangents widths banks width ks q₀ i₀ w₀ q i w = Inv (lane_of points tangents widths banks width) ks w q i
 
-abbrev decreases-loop : tie.decreases-loop
+abbrev decreases-loop : tie.decreases-loop-i
 decreases-loop points tangents widths banks width ks q₀ i₀ w₀ q i w = length ks - i
 
-no-leg-requires : tie.Need-no-leg-requires invariant-loop decreases-loop
+no-leg-requires : tie.Need-no_leg-requires invariant-loop decreases-loop
 no-leg-requires c κs = search rules
 
-walk-at-requires : tie.Need-walk-at-requires invariant-loop decreases-loop
+walk-at-requires : tie.Need-walk_at-w-requires invariant-loop decreases-loop
 unfolding leg_in
-walk-at-requires c κs = (omega arith, c.no-leg.ensures)
+walk-at-requires c κs = (omega arith, c.no_leg.ensures)
 
-loop-holds : tie.Need-loop-init invariant-loop decreases-loop
+loop-holds : tie.Need-loop-i-init invariant-loop decreases-loop
 unfolding gather
-loop-holds c = record { sum = λ v. refl; here = c.walk_at.ensures; most = omega arith; few = omega arith }
+loop-holds c = record { sum = λ v. refl; here = c.walk_at-w.ensures; most = omega arith; few = omega arith }
 
-add-loop : tie.Need-overflow-add-loop invariant-loop decreases-loop
+add-loop : tie.Need-overflow_add-i invariant-loop decreases-loop
 add-loop c = omega arith
 
-add-walk-at : tie.Need-overflow-add-walk-at invariant-loop decreases-loop
+add-walk-at : tie.Need-overflow_add-i-in-loop-i invariant-loop decreases-loop
 add-walk-at c = omega arith
 
-walk-at-requires-2 : tie.Need-walk-at-requires-2 invariant-loop decreases-loop
+walk-at-requires-2 : tie.Need-walk_at-next-requires invariant-loop decreases-loop
 unfolding walk_at
 walk-at-requires-2 c κs =
-    let at_no_leg = c.before.before.before.before in
-    let start = at_no_leg.before.before.before.before.before.before in
-    let at = c.before.before.loop in (
+    let at_no_leg = c in
+    let start = at_no_leg in
+    let at = c.loop-i in (
       omega arith,
       ap (λ (x : Walk). x.out) at.invariant.here ∙ leg_next start.args.points.now start.args.ks.now at.i (omega arith),
     )
 
-count-segment-requires : tie.Need-count-segment-requires invariant-loop decreases-loop
+count-segment-requires : tie.Need-count_segment-q-requires invariant-loop decreases-loop
 count-segment-requires c κs = search rules
 
-add-q : tie.Need-overflow-add-q invariant-loop decreases-loop
+add-q : tie.Need-overflow_add-q invariant-loop decreases-loop
 add-q c =
-    let at_loop_test = c.before.before.before in
-    let start = at_loop_test.before.before.before.before.before.before.before.before.before in
-    omega (arith, start.requires, at_loop_test.before.loop.invariant.few, c.count-segment.ensures.1, at_loop_test.loop-test.true)
+    let at_loop_test = c in
+    let start = at_loop_test in
+    omega (arith, start.requires, at_loop_test.loop-i.invariant.few, c.count_segment-q.ensures.1, at_loop_test.loop-i-test.true)
 
-add-i : tie.Need-overflow-add-i invariant-loop decreases-loop
+add-i : tie.Need-overflow_add-i-in-loop-i-2 invariant-loop decreases-loop
 add-i c =
-    let at_loop_test = c.before.before.before in
-    let start = at_loop_test.before.before.before.before.before.before.before.before.before in
-    omega (arith, start.requires, at_loop_test.loop-test.true)
+    let at_loop_test = c in
+    let start = at_loop_test in
+    omega (arith, start.requires, at_loop_test.loop-i-test.true)
 
-loop-less : tie.Need-loop-smaller invariant-loop decreases-loop
-loop-less c = omega (arith, c.before.before.before.loop-test.true)
+loop-less : tie.Need-loop-i-smaller invariant-loop decreases-loop
+loop-less c = omega (arith, c.loop-i-test.true)
 
-loop-again : tie.Need-loop-preserved invariant-loop decreases-loop
+loop-again : tie.Need-loop-i-preserved invariant-loop decreases-loop
 unfolding walk_at
 loop-again c =
-    let at_loop = c.before.before.before.before in
-    let start = at_loop.before.before.before.before.before.before.before.before in
+    let at_loop = c in
+    let start = at_loop in
     let a = start.args in
     let l = lane_of a.points.now a.tangents.now a.widths.now a.banks.now a.width in
-    let at = at_loop.loop in
+    let at = at_loop.loop-i in
     record {
       sum = λ v. rw (
         gather_next (indices_at v l a.ks.now) at.i,
         length-append,
         ← (at.invariant.sum v),
         ← (ap (λ (x : Walk). x.rib) at.invariant.here),
-        ← (ap (λ (x : Walk). x.rib) c.before.walk-at2.ensures),
-        ← (c.count-segment.ensures.0 (v + 2 * at.i)),
+        ← (ap (λ (x : Walk). x.rib) c.walk_at-next.ensures),
+        ← (c.count_segment-q.ensures.0 (v + 2 * at.i)),
       );
-      here = c.before.walk-at2.ensures;
+      here = c.walk_at-next.ensures;
       most = omega arith;
-      few = omega (arith, c.count-segment.ensures.1, at.invariant.few);
+      few = omega (arith, c.count_segment-q.ensures.1, at.invariant.few);
     }
 
 returns : tie.Need-returns invariant-loop decreases-loop
 unfolding indices_of
 returns c =
-    let start = c.before.before.before.before.before.before.before.before.before in
-    let e : c.before.loop.i ≡ length start.args.ks.now - 1 = omega (arith, c.before.loop.invariant.most) in
-    (λ v. rw (← e) (c.before.loop.invariant.sum v), omega (arith, c.before.loop.invariant.few))
+    let start = c in
+    let e : c.loop-i.i ≡ length start.args.ks.now - 1 = omega (arith, c.loop-i.invariant.most) in
+    (λ v. rw (← e) (c.loop-i.invariant.sum v), omega (arith, c.loop-i.invariant.few))
 
-pub count-indices-spec : {M : Type 1} → statement M
-count-indices-spec =
+pub count_indices_spec : {M : Type 1} → statement M
+count_indices_spec =
     tie.close
     (tie.spec
     invariant-loop

@@ -13,14 +13,14 @@ sub-requires-2 c κs = search rules
 cross-requires : tie.Need-cross-requires
 cross-requires c κs = search rules
 
-length-below-micro-requires : tie.Need-length-below-micro-requires
+length-below-micro-requires : tie.Need-length_below_micro-requires
 length-below-micro-requires c κs = search rules
 
 returns : tie.Need-returns
 unfolding no_area
-returns c = rw (c.length-below-micro.ensures, c.before.cross.ensures, c.before.before.sub2.ensures, c.before.before.before.sub.ensures)
+returns c = rw (c.length_below_micro.ensures, c.cross.ensures, c.sub-2.ensures, c.sub.ensures)
 
-pub no-area-spec : {M : Type 1} → statement M
-no-area-spec =
+pub no_area_spec : {M : Type 1} → statement M
+no_area_spec =
     tie.close
     (tie.spec sub-requires sub-requires-2 cross-requires length-below-micro-requires returns)

@@ -21,182 +21,182 @@ record Inv (l : Lane) (ks : List ℕ) (v : ℕ) (at : At) (v₀ v₁ n₀ n₁ :
   at_q : q ≡ at.floats + 6 * i
   most : i < length ks
 
-abbrev invariant-loop : tie.invariant-loop
+abbrev invariant-loop : tie.invariant-loop-i
 invariant-loop points tangents widths banks width ks vertices₀ normals₀ indices₀ at v w₀ q₀ j₀ i₀ vertices normals indices w q j i =
     Inv (lane_of points tangents widths banks width) ks v at vertices₀ vertices normals₀ normals indices₀ indices w q j i
 
-abbrev decreases-loop : tie.decreases-loop
+abbrev decreases-loop : tie.decreases-loop-i
 decreases-loop points tangents widths banks width ks vertices₀ normals₀ indices₀ at v w₀ q₀ j₀ i₀ vertices normals indices w q j i = length ks - i
 
-no-leg-requires : tie.Need-no-leg-requires invariant-loop decreases-loop
+no-leg-requires : tie.Need-no_leg-requires invariant-loop decreases-loop
 no-leg-requires c κs = search rules
 
-walk-at-requires : tie.Need-walk-at-requires invariant-loop decreases-loop
+walk-at-requires : tie.Need-walk_at-w-requires invariant-loop decreases-loop
 unfolding leg_in
-walk-at-requires c κs = (omega arith, c.no-leg.ensures)
+walk-at-requires c κs = (omega arith, c.no_leg.ensures)
 
-loop-holds : tie.Need-loop-init invariant-loop decreases-loop
+loop-holds : tie.Need-loop-i-init invariant-loop decreases-loop
 unfolding gather
 loop-holds c =
-    let at_slice_known = c.before.before.before.before.before in
-    let start = at_slice_known.before.before.before.before.before.before in
+    let at_slice_known = c in
+    let start = at_slice_known in
     let a = start.args in
     record {
       vs = put_none a.vertices.now a.at.floats;
       ns = put_none a.normals.now a.at.floats;
       is = put_none a.indices.now a.at.index;
-      here = c.walk_at.ensures;
+      here = c.walk_at-w.ensures;
       at_q = omega arith;
       most = omega (arith, start.requires.0.0);
     }
 
-add-loop : tie.Need-overflow-add-loop invariant-loop decreases-loop
+add-loop : tie.Need-overflow_add-i invariant-loop decreases-loop
 add-loop c =
-    let at_slice_known = c.before.before.before.before.before.before in
-    let start = at_slice_known.before.before.before.before.before.before in
-    omega (arith, start.requires.0, c.loop.invariant.most)
+    let at_slice_known = c in
+    let start = at_slice_known in
+    omega (arith, start.requires.0, c.loop-i.invariant.most)
 
-add-walk-at : tie.Need-overflow-add-walk-at invariant-loop decreases-loop
+add-walk-at : tie.Need-overflow_add-i-in-loop-i invariant-loop decreases-loop
 add-walk-at c =
-    let at_slice_known2 = c.before.before.before.before.before.before.before in
-    let start = at_slice_known2.before.before.before.before.before.before.before in
-    omega (arith, start.requires.0, c.before.loop-test.true)
+    let at_slice_known2 = c in
+    let start = at_slice_known2 in
+    omega (arith, start.requires.0, c.loop-i-test.true)
 
-walk-at-requires-2 : tie.Need-walk-at-requires-2 invariant-loop decreases-loop
+walk-at-requires-2 : tie.Need-walk_at-next-requires invariant-loop decreases-loop
 unfolding walk_at
 walk-at-requires-2 c κs =
-    let at_slice_known2 = c.before.before.before.before.before.before.before in
-    let start = at_slice_known2.before.before.before.before.before.before.before in
-    let at = c.before.before.loop in (
-      omega (arith, start.requires.0, c.before.loop-test.true),
+    let at_slice_known2 = c in
+    let start = at_slice_known2 in
+    let at = c.loop-i in (
+      omega (arith, start.requires.0, c.loop-i-test.true),
       ap (λ (x : Walk). x.out) at.invariant.here
-          ∙ leg_next start.args.points.now start.args.ks.now at.i c.before.loop-test.true,
+          ∙ leg_next start.args.points.now start.args.ks.now at.i c.loop-i-test.true,
     )
 
-put-rib-requires : tie.Need-put-rib-requires invariant-loop decreases-loop
+put-rib-requires : tie.Need-put_rib-q-requires invariant-loop decreases-loop
 put-rib-requires c κs =
-    let at_loop_test = c.before.before.before.before in
-    let at_slice_known2 = at_loop_test.before.before.before.before.before.before in
-    let start = at_slice_known2.before.before.before.before.before.before.before in
-    let i = at_loop_test.before.loop.invariant in
-    omega (arith, start.requires.0, put_length i.vs, put_length i.ns, i.at_q, at_loop_test.loop-test.true)
+    let at_loop_test = c in
+    let at_slice_known2 = at_loop_test in
+    let start = at_slice_known2 in
+    let i = at_loop_test.loop-i.invariant in
+    omega (arith, start.requires.0, put_length i.vs, put_length i.ns, i.at_q, at_loop_test.loop-i-test.true)
 
-mul-put-segment : tie.Need-overflow-mul-put-segment invariant-loop decreases-loop
+mul-put-segment : tie.Need-overflow_mul-i invariant-loop decreases-loop
 mul-put-segment c =
-    let at_put_rib = c.before.before.before.before.before in
-    let at_loop_test = at_put_rib.before.before.before.before.before in
-    let at_slice_known2 = at_loop_test.before.before.before.before.before.before in
-    let start = at_slice_known2.before.before.before.before.before.before.before in
-    omega (arith, start.requires.0, at_loop_test.loop-test.true)
+    let at_put_rib = c in
+    let at_loop_test = at_put_rib in
+    let at_slice_known2 = at_loop_test in
+    let start = at_slice_known2 in
+    omega (arith, start.requires.0, at_loop_test.loop-i-test.true)
 
-add-put-segment : tie.Need-overflow-add-put-segment invariant-loop decreases-loop
+add-put-segment : tie.Need-overflow_add-v invariant-loop decreases-loop
 add-put-segment c =
-    let at_put_rib = c.before.before.before.before.before in
-    let at_loop_test = at_put_rib.before.before.before.before.before in
-    let at_slice_known2 = at_loop_test.before.before.before.before.before.before in
-    let start = at_slice_known2.before.before.before.before.before.before.before in
-    omega (arith, start.requires.0, at_loop_test.loop-test.true)
+    let at_put_rib = c in
+    let at_loop_test = at_put_rib in
+    let at_slice_known2 = at_loop_test in
+    let start = at_slice_known2 in
+    omega (arith, start.requires.0, at_loop_test.loop-i-test.true)
 
-put-segment-requires : tie.Need-put-segment-requires invariant-loop decreases-loop
+put-segment-requires : tie.Need-put_segment-j-requires invariant-loop decreases-loop
 unfolding indices_of walk_at
 put-segment-requires c κs =
-    let at_walk_at2 = c.before.before.before.before.before.before.before.before in
-    let at_loop_test = at_walk_at2.before.before in
-    let at_slice_known2 = at_loop_test.before.before.before.before.before.before in
-    let start = at_slice_known2.before.before.before.before.before.before.before in
+    let at_walk_at2 = c in
+    let at_loop_test = at_walk_at2 in
+    let at_slice_known2 = at_loop_test in
+    let start = at_slice_known2 in
     let a = start.args in
     let l = lane_of a.points.now a.tangents.now a.widths.now a.banks.now a.width in
-    let at = at_loop_test.before.loop in
-    rw (ap (λ (x : Walk). x.rib) at.invariant.here, ap (λ (x : Walk). x.rib) at_walk_at2.walk-at2.ensures) (omega (
+    let at = at_loop_test.loop-i in
+    rw (ap (λ (x : Walk). x.rib) at.invariant.here, ap (λ (x : Walk). x.rib) at_walk_at2.walk_at-next.ensures) (omega (
       arith,
       start.requires.0,
       start.requires.1,
       put_length at.invariant.is,
       at.invariant.is.ends,
       gather_fits (indices_at (a.at.floats / 3) l a.ks.now) at.i (length a.ks.now - 1)
-          (omega (arith, at_loop_test.loop-test.true)),
-      at_loop_test.loop-test.true,
+          (omega (arith, at_loop_test.loop-i-test.true)),
+      at_loop_test.loop-i-test.true,
     ))
 
-add-i : tie.Need-overflow-add-i invariant-loop decreases-loop
+add-i : tie.Need-overflow_add-i-in-loop-i-2 invariant-loop decreases-loop
 add-i c =
-    let at_put_rib = c.before.before.before.before.before.before.before.before in
-    let at_loop_test = at_put_rib.before.before.before.before.before in
-    let at_slice_known2 = at_loop_test.before.before.before.before.before.before in
-    let start = at_slice_known2.before.before.before.before.before.before.before in
-    omega (arith, start.requires.0, at_loop_test.loop-test.true)
+    let at_put_rib = c in
+    let at_loop_test = at_put_rib in
+    let at_slice_known2 = at_loop_test in
+    let start = at_slice_known2 in
+    omega (arith, start.requires.0, at_loop_test.loop-i-test.true)
 
-loop-less : tie.Need-loop-smaller invariant-loop decreases-loop
+loop-less : tie.Need-loop-i-smaller invariant-loop decreases-loop
 loop-less c =
-    let at_put_rib = c.before.before.before.before.before.before.before.before in
-    let at_loop_test = at_put_rib.before.before.before.before.before in
-    omega (arith, at_loop_test.loop-test.true)
+    let at_put_rib = c in
+    let at_loop_test = at_put_rib in
+    omega (arith, at_loop_test.loop-i-test.true)
 
-loop-again : tie.Need-loop-preserved invariant-loop decreases-loop
+loop-again : tie.Need-loop-i-preserved invariant-loop decreases-loop
 unfolding walk_at six_of
 loop-again c =
-    let at_put_rib = c.before.before.before.before.before.before.before.before in
-    let at_walk_at2 = at_put_rib.before.before.before in
-    let at_loop = at_walk_at2.before.before.before in
-    let at_slice_known = at_loop.before.before.before.before.before.before in
-    let start = at_slice_known.before.before.before.before.before.before in
+    let at_put_rib = c in
+    let at_walk_at2 = at_put_rib in
+    let at_loop = at_walk_at2 in
+    let at_slice_known = at_loop in
+    let start = at_slice_known in
     let a = start.args in
     let l = lane_of a.points.now a.tangents.now a.widths.now a.banks.now a.width in
-    let at = at_loop.loop in
+    let at = at_loop.loop-i in
     let e = ap (λ (x : Walk). x.rib) at.invariant.here in
-    let did = at_put_rib.put-rib.ensures in
+    let did = at_put_rib.put_rib-q.ensures in
     record {
       vs = put_turn (vertices_at l a.ks.now) at.i at.invariant.vs (rw e at did.0);
       ns = put_turn (normals_at l a.ks.now) at.i at.invariant.ns (rw e at did.1);
       is = put_turn (indices_at (a.at.floats / 3) l a.ks.now) at.i at.invariant.is
-          (rw (e, ap (λ (x : Walk). x.rib) at_walk_at2.walk-at2.ensures) at c.before.before.put-segment.ensures);
-      here = at_walk_at2.walk-at2.ensures;
+          (rw (e, ap (λ (x : Walk). x.rib) at_walk_at2.walk_at-next.ensures) at c.put_segment-j.ensures);
+      here = at_walk_at2.walk_at-next.ensures;
       at_q = omega (arith, did.0.ends, at.invariant.at_q);
-      most = omega (arith, at_walk_at2.before.before.loop-test.true);
+      most = omega (arith, at_walk_at2.loop-i-test.true);
     }
 
-put-rib-requires-2 : tie.Need-put-rib-requires-2 invariant-loop decreases-loop
+put-rib-requires-2 : tie.Need-put_rib-requires invariant-loop decreases-loop
 put-rib-requires-2 c κs =
-    let at_loop = c.before.before.before in
-    let at_slice_known = at_loop.before.before.before.before.before.before in
-    let start = at_slice_known.before.before.before.before.before.before in
-    let i = at_loop.loop.invariant in
+    let at_loop = c in
+    let at_slice_known = at_loop in
+    let start = at_slice_known in
+    let i = at_loop.loop-i.invariant in
     omega (arith, start.requires.0, put_length i.vs, put_length i.ns, i.at_q, i.most)
 
-same_length : tie.Need-same-length invariant-loop decreases-loop
+same_length : tie.Need-shape_of-vertices invariant-loop decreases-loop
 same_length c =
-    let at_put_rib2 = c.before.before.before.before in
-    let at_loop = at_put_rib2.before.before.before.before in
-    put_length at_put_rib2.put-rib2.ensures.0 ∙ put_length at_loop.loop.invariant.vs
+    let at_put_rib2 = c in
+    let at_loop = at_put_rib2 in
+    put_length at_put_rib2.put_rib.ensures.0 ∙ put_length at_loop.loop-i.invariant.vs
 
-same-length-2 : tie.Need-same-length-2 invariant-loop decreases-loop
+same-length-2 : tie.Need-shape_of-normals invariant-loop decreases-loop
 same-length-2 c =
-    let at_put_rib2 = c.before.before.before.before in
-    let at_loop = at_put_rib2.before.before.before.before in
-    put_length at_put_rib2.put-rib2.ensures.1 ∙ put_length at_loop.loop.invariant.ns
+    let at_put_rib2 = c in
+    let at_loop = at_put_rib2 in
+    put_length at_put_rib2.put_rib.ensures.1 ∙ put_length at_loop.loop-i.invariant.ns
 
-same-length-3 : tie.Need-same-length-3 invariant-loop decreases-loop
-same-length-3 c = put_length c.before.before.before.before.before.before.before.before.loop.invariant.is
+same-length-3 : tie.Need-shape_of-indices invariant-loop decreases-loop
+same-length-3 c = put_length c.loop-i.invariant.is
 
 returns : tie.Need-returns invariant-loop decreases-loop
 unfolding vertices_of normals_of indices_of walk_at
 returns c =
-    let at_put_rib2 = c.before.before.before.before in
-    let at_loop_test = at_put_rib2.before.before.before in
-    let at_slice_known2 = at_loop_test.before.before.before.before.before.before in
-    let start = at_slice_known2.before.before.before.before.before.before.before in
+    let at_put_rib2 = c in
+    let at_loop_test = at_put_rib2 in
+    let at_slice_known2 = at_loop_test in
+    let start = at_slice_known2 in
     let a = start.args in
     let l = lane_of a.points.now a.tangents.now a.widths.now a.banks.now a.width in
-    let at = at_loop_test.before.loop in
+    let at = at_loop_test.loop-i in
     let r = ap (λ (x : Walk). x.rib) at.invariant.here in
-    let e : at.i + 1 ≡ length a.ks.now = omega (arith, at.invariant.most, at_loop_test.loop-test.false) in
-    let f : at.i ≡ length a.ks.now - 1 = omega (arith, at.invariant.most, at_loop_test.loop-test.false) in
-    let vs = put_turn (vertices_at l a.ks.now) at.i at.invariant.vs (rw r at at_put_rib2.put-rib2.ensures.0) in
-    let ns = put_turn (normals_at l a.ks.now) at.i at.invariant.ns (rw r at at_put_rib2.put-rib2.ensures.1) in
+    let e : at.i + 1 ≡ length a.ks.now = omega (arith, at.invariant.most, at_loop_test.loop-i-test.false) in
+    let f : at.i ≡ length a.ks.now - 1 = omega (arith, at.invariant.most, at_loop_test.loop-i-test.false) in
+    let vs = put_turn (vertices_at l a.ks.now) at.i at.invariant.vs (rw r at at_put_rib2.put_rib.ensures.0) in
+    let ns = put_turn (normals_at l a.ks.now) at.i at.invariant.ns (rw r at at_put_rib2.put_rib.ensures.1) in
     (rw e at vs, rw e at ns, rw f at at.invariant.is)
 
-pub put-ribs-spec : {M : Type 1} → statement M
-put-ribs-spec =
+pub put_ribs_spec : {M : Type 1} → statement M
+put_ribs_spec =
     tie.close
     (tie.spec
     invariant-loop

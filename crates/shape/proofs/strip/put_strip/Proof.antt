@@ -13,107 +13,107 @@ some_length ks h = positive (length ks) h
     positive zero h = absurd (h refl)
     positive (suc n) h = omega arith
 
-weld-requires : tie.Need-weld-requires
+weld-requires : tie.Need-weld-n-requires
 weld-requires c κs = search rules
 
-same_length : tie.Need-same-length
+same_length : tie.Need-shape_of-kept-then-n-eq0
 same_length c = search rules
 
-returns : tie.Need-returns
+returns : tie.Need-returns-then-n-eq0
 unfolding kept
 returns c =
-    let at_weld = c.before.before.before in
-    let at_slice_known2 = at_weld.before.before.before.before.before in
-    let start = at_slice_known2.before.before.before.before.before.before in
+    let at_weld = c in
+    let at_slice_known2 = at_weld in
+    let start = at_slice_known2 in
     let a = start.args in
     let l = lane_of a.points.now a.tangents.now a.widths.now a.banks.now a.width in
     wrote_none l a.id a.at a.vertices.now a.normals.now a.indices.now a.spans.now
-    (sym (at_weld.weld.ensures.0.ends ∙ zero-add (length (kept l))) ∙ c.if1.true)
+    (sym (at_weld.weld-n.ensures.0.ends ∙ zero-add (length (kept l))) ∙ c.if-n-eq0.true)
 
-slice-reshare-prefix-ks : tie.Need-slice-reshare-prefix-ks
+slice-reshare-prefix-ks : tie.Need-slice_bounds-ks-end
 slice-reshare-prefix-ks c = search rules
 
-slice-aggregate-ks : tie.Need-slice-aggregate-ks
+slice-aggregate-ks : tie.Need-slice_bounds-ks-end-2
 slice-aggregate-ks c =
-    let at_weld = c.before.before.before.before in
-    let at_slice_known2 = at_weld.before.before.before.before.before in
-    let start = at_slice_known2.before.before.before.before.before.before in
-    let p = at_weld.weld.ensures.0 in
-    let e = put_front p (omega (arith, start.requires.0.2, at_weld.weld.ensures.1)) in
+    let at_weld = c in
+    let at_slice_known2 = at_weld in
+    let start = at_slice_known2 in
+    let p = at_weld.weld-n.ensures.0 in
+    let e = put_front p (omega (arith, start.requires.0.2, at_weld.weld-n.ensures.1)) in
     rw e (p.ends ∙ zero-add _)
 
-put-ribs-requires : tie.Need-put-ribs-requires
+put-ribs-requires : tie.Need-put_ribs-to-requires
 unfolding kept
 put-ribs-requires c κs =
-    let at_if1 = c.before.before.before.before in
-    let at_weld = at_if1.before.before.before in
-    let at_slice_known2 = at_weld.before.before.before.before.before in
-    let start = at_slice_known2.before.before.before.before.before.before in
+    let at_if1 = c in
+    let at_weld = at_if1 in
+    let at_slice_known2 = at_weld in
+    let start = at_slice_known2 in
     let a = start.args in
     let l = lane_of a.points.now a.tangents.now a.widths.now a.banks.now a.width in
-    let ks = take at_weld.weld.result at_weld.weld.new.1.0 in
-    let e : ks ≡ kept l = put_front at_weld.weld.ensures.0 (omega (arith, start.requires.0.2, at_weld.weld.ensures.1)) in
+    let ks = take at_weld.weld-n.result at_weld.weld-n.new.kept in
+    let e : ks ≡ kept l = put_front at_weld.weld-n.ensures.0 (omega (arith, start.requires.0.2, at_weld.weld-n.ensures.1)) in
     let some : length ks ≡ 0 → ⊥ =
-    λ z. at_if1.if1.false (at_weld.weld.ensures.0.ends ∙ zero-add (length (kept l)) ∙ ap length (sym e) ∙ z) in
+    λ z. at_if1.if-n-eq0.false (at_weld.weld-n.ensures.0.ends ∙ zero-add (length (kept l)) ∙ ap length (sym e) ∙ z) in
     let room = ribs_room l a.at a.vertices.now a.normals.now a.indices.now a.spans.now start.requires.1 ks e in (
       (omega (arith, some_length ks some), room.0, room.1, room.2),
       indices_room l a.at a.vertices.now a.normals.now a.indices.now a.spans.now start.requires.1 ks e,
     )
 
-put-span-requires : tie.Need-put-span-requires
+put-span-requires : tie.Need-put_span-word-requires
 unfolding kept
 put-span-requires c κs =
-    let at_put_ribs = c.before.before.before.before.before.before.before.before.before in
-    let at_if1 = at_put_ribs.before.before.before.before.before in
-    let at_weld = at_if1.before.before.before in
-    let at_slice_known2 = at_weld.before.before.before.before.before in
-    let start = at_slice_known2.before.before.before.before.before.before in
+    let at_put_ribs = c in
+    let at_if1 = at_put_ribs in
+    let at_weld = at_if1 in
+    let at_slice_known2 = at_weld in
+    let start = at_slice_known2 in
     let a = start.args in
     let l = lane_of a.points.now a.tangents.now a.widths.now a.banks.now a.width in
-    let ks = take at_weld.weld.result at_weld.weld.new.1.0 in
-    let e : ks ≡ kept l = put_front at_weld.weld.ensures.0 (omega (arith, start.requires.0.2, at_weld.weld.ensures.1)) in
+    let ks = take at_weld.weld-n.result at_weld.weld-n.new.kept in
+    let e : ks ≡ kept l = put_front at_weld.weld-n.ensures.0 (omega (arith, start.requires.0.2, at_weld.weld-n.ensures.1)) in
     let some : length ks ≡ 0 → ⊥ =
-    λ z. at_if1.if1.false (at_weld.weld.ensures.0.ends ∙ zero-add (length (kept l)) ∙ ap length (sym e) ∙ z) in
+    λ z. at_if1.if-n-eq0.false (at_weld.weld-n.ensures.0.ends ∙ zero-add (length (kept l)) ∙ ap length (sym e) ∙ z) in
     span_room l a.at a.vertices.now a.normals.now a.indices.now a.spans.now start.requires.1 ks e a.id
-    at_put_ribs.put-ribs.result.floats at_put_ribs.put-ribs.result.index some start.requires.0.1
-    at_put_ribs.put-ribs.ensures.0.ends at_put_ribs.put-ribs.ensures.2.ends
+    at_put_ribs.put_ribs-to.result.floats at_put_ribs.put_ribs-to.result.index some start.requires.0.1
+    at_put_ribs.put_ribs-to.ensures.0.ends at_put_ribs.put_ribs-to.ensures.2.ends
 
-same-length-2 : tie.Need-same-length-2
+same-length-2 : tie.Need-shape_of-kept
 same-length-2 c = search rules
 
-same-length-3 : tie.Need-same-length-3
+same-length-3 : tie.Need-shape_of-vertices
 same-length-3 c = search rules
 
-same-length-4 : tie.Need-same-length-4
+same-length-4 : tie.Need-shape_of-normals
 same-length-4 c = search rules
 
-same-length-5 : tie.Need-same-length-5
+same-length-5 : tie.Need-shape_of-indices
 same-length-5 c = search rules
 
-same-length-6 : tie.Need-same-length-6
+same-length-6 : tie.Need-shape_of-spans
 same-length-6 c = search rules
 
-returns-2 : tie.Need-returns-2
+returns-2 : tie.Need-returns
 unfolding kept
 returns-2 c =
-    let at_indices = c.before.before.before.before.before.before.before in
-    let at_put_ribs = at_indices.before.before.before.before.before in
-    let at_if1 = at_put_ribs.before.before.before.before.before in
-    let at_weld = at_if1.before.before.before in
-    let at_slice_known2 = at_weld.before.before.before.before.before in
-    let start = at_slice_known2.before.before.before.before.before.before in
+    let at_indices = c in
+    let at_put_ribs = at_indices in
+    let at_if1 = at_put_ribs in
+    let at_weld = at_if1 in
+    let at_slice_known2 = at_weld in
+    let start = at_slice_known2 in
     let a = start.args in
     let l = lane_of a.points.now a.tangents.now a.widths.now a.banks.now a.width in
-    let ks = take at_weld.weld.result at_weld.weld.new.1.0 in
-    let e : ks ≡ kept l = put_front at_weld.weld.ensures.0 (omega (arith, start.requires.0.2, at_weld.weld.ensures.1)) in
+    let ks = take at_weld.weld-n.result at_weld.weld-n.new.kept in
+    let e : ks ≡ kept l = put_front at_weld.weld-n.ensures.0 (omega (arith, start.requires.0.2, at_weld.weld-n.ensures.1)) in
     let some : length ks ≡ 0 → ⊥ =
-    λ z. at_if1.if1.false (at_weld.weld.ensures.0.ends ∙ zero-add (length (kept l)) ∙ ap length (sym e) ∙ z) in
-    wrote l a.at ks e a.id at_put_ribs.put-ribs.result.floats at_put_ribs.put-ribs.result.index
-    c.before.before.put-span.result some at_put_ribs.put-ribs.ensures.0 at_put_ribs.put-ribs.ensures.1
-    at_put_ribs.put-ribs.ensures.2 c.before.before.put-span.ensures
+    λ z. at_if1.if-n-eq0.false (at_weld.weld-n.ensures.0.ends ∙ zero-add (length (kept l)) ∙ ap length (sym e) ∙ z) in
+    wrote l a.at ks e a.id at_put_ribs.put_ribs-to.result.floats at_put_ribs.put_ribs-to.result.index
+    c.put_span-word.result some at_put_ribs.put_ribs-to.ensures.0 at_put_ribs.put_ribs-to.ensures.1
+    at_put_ribs.put_ribs-to.ensures.2 c.put_span-word.ensures
 
-pub put-strip-spec : {M : Type 1} → statement M
-put-strip-spec =
+pub put_strip_spec : {M : Type 1} → statement M
+put_strip_spec =
     tie.close
     (tie.spec
     weld-requires

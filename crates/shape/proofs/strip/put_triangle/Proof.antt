@@ -9,52 +9,52 @@ room : (flat : Bool) (a b c at n : ℕ) → flat ≡ false → at + length (tria
 unfolding triangle_of
 room flat a b c at n e h = rw e at h
 
-returns : tie.Need-returns
+returns : tie.Need-returns-then-flat
 unfolding triangle_of
-returns c = rw c.if1.true (record { memory = refl; ends = sym (add-zero c.before.before.args.at) })
+returns c = rw c.if-flat.true (record { memory = refl; ends = sym (add-zero c.args.at) })
 
-put-word-requires : tie.Need-put-word-requires
-put-word-requires c κs = let h = room _ _ _ _ _ _ c.before.if1.false c.before.before.before.requires.0 in omega arith
+put-word-requires : tie.Need-put_word-requires
+put-word-requires c κs = let h = room _ _ _ _ _ _ c.if-flat.false c.requires.0 in omega arith
 
-add-put-word : tie.Need-overflow-add-put-word
+add-put-word : tie.Need-overflow_add-at
 add-put-word c = search rules
 
-put-word-requires-2 : tie.Need-put-word-requires-2
+put-word-requires-2 : tie.Need-put_word-requires-2
 put-word-requires-2 c κs =
-    let at_if1 = c.before.before.before.before.before in
-    let start = at_if1.before.before in
-    let h = room _ _ _ _ _ _ at_if1.if1.false start.requires.0 in
+    let at_if1 = c in
+    let start = at_if1 in
+    let h = room _ _ _ _ _ _ at_if1.if-flat.false start.requires.0 in
     omega arith
 
-add-put-word-2 : tie.Need-overflow-add-put-word-2
+add-put-word-2 : tie.Need-overflow_add-at-2
 add-put-word-2 c = search rules
 
-put-word-requires-3 : tie.Need-put-word-requires-3
+put-word-requires-3 : tie.Need-put_word-requires-3
 put-word-requires-3 c κs =
-    let at_if1 = c.before.before.before.before.before.before.before.before.before in
-    let start = at_if1.before.before in
-    let h = room _ _ _ _ _ _ at_if1.if1.false start.requires.0 in
+    let at_if1 = c in
+    let start = at_if1 in
+    let h = room _ _ _ _ _ _ at_if1.if-flat.false start.requires.0 in
     omega arith
 
-add-result : tie.Need-overflow-add-result
+add-result : tie.Need-overflow_add-result
 add-result c = search rules
 
-same_length : tie.Need-same-length
+same_length : tie.Need-shape_of-out
 same_length c = search rules
 
-returns-2 : tie.Need-returns-2
+returns-2 : tie.Need-returns
 unfolding triangle_of
 returns-2 c =
-    let at_put_word2 = c.before.before.before.before.before.before in
-    let at_put_word = at_put_word2.before.before.before.before in
-    rw at_put_word.before.before.if1.false (record {
-      memory = rw (c.before.before.put-word3.ensures, at_put_word2.put-word2.ensures, at_put_word.put_word.ensures)
+    let at_put_word2 = c in
+    let at_put_word = at_put_word2 in
+    rw at_put_word.if-flat.false (record {
+      memory = rw (c.put_word-3.ensures, at_put_word2.put_word-2.ensures, at_put_word.put_word.ensures)
           (simp towards_suc);
       ends = refl;
     })
 
-pub put-triangle-spec : {M : Type 1} → statement M
-put-triangle-spec =
+pub put_triangle_spec : {M : Type 1} → statement M
+put_triangle_spec =
     tie.close
     (tie.spec
     returns

@@ -5,19 +5,19 @@ use Rattle.std.proofs.Common.{rules}
 use Rattle.shape.proofs.strip.put_ups.Statement.{statement}
 use Rattle.shape.proofs.strip.put_ups.Tie as tie
 
-put-singles-requires : tie.Need-put-singles-requires
+put-singles-requires : tie.Need-put_singles-q-requires
 put-singles-requires c κs = search rules
 
-put-singles-requires-2 : tie.Need-put-singles-requires-2
+put-singles-requires-2 : tie.Need-put_singles-requires
 put-singles-requires-2 c κs = search rules
 
-same_length : tie.Need-same-length
+same_length : tie.Need-shape_of-out
 same_length c = search rules
 
 returns : tie.Need-returns
 unfolding ups_of
-returns c = put_then c.before.before.before.before.before.before.put-singles.ensures c.before.before.put-singles2.ensures
+returns c = put_then c.put_singles-q.ensures c.put_singles.ensures
 
-pub put-ups-spec : {M : Type 1} → statement M
-put-ups-spec =
+pub put_ups_spec : {M : Type 1} → statement M
+put_ups_spec =
     tie.close (tie.spec put-singles-requires put-singles-requires-2 same_length returns)

@@ -9,12 +9,12 @@ unfolding span_of
 some zero id v w i j h = absurd (h refl)
 some (suc n) id v w i j h = refl
 
-returns : tie.Need-returns
+returns : tie.Need-returns-then-n-eq0
 unfolding span_of
-returns c = rw c.if1.true (λ a b d e f. refl, omega arith)
+returns c = rw c.if-n-eq0.true (λ a b d e f. refl, omega arith)
 
-returns-2 : tie.Need-returns-2
-returns-2 c = (λ a b d e f. some c.before.args.n a b d e f c.if1.false, omega arith)
+returns-2 : tie.Need-returns-else-n-eq0
+returns-2 c = (λ a b d e f. some c.args.n a b d e f c.if-n-eq0.false, omega arith)
 
-pub span-size-spec : {M : Type 1} → statement M
-span-size-spec = tie.close (tie.spec returns returns-2)
+pub span_size_spec : {M : Type 1} → statement M
+span_size_spec = tie.close (tie.spec returns returns-2)

@@ -5,48 +5,48 @@ use Rattle.shape.proofs.Verdicts.{finite_next}
 use Rattle.shape.proofs.validate.every_finite.Statement.{statement}
 use Rattle.shape.proofs.validate.every_finite.Tie as tie
 
-abbrev invariant-loop : tie.invariant-loop
+abbrev invariant-loop : tie.invariant-loop-i
 invariant-loop xs ok₀ i₀ ok i = (ok ≡ true → FiniteBelow xs i) × (i ≤ length xs)
 
-abbrev decreases-loop : tie.decreases-loop
+abbrev decreases-loop : tie.decreases-loop-i
 decreases-loop xs ok₀ i₀ ok i = length xs - i
 
-loop-holds : tie.Need-loop-init invariant-loop decreases-loop
+loop-holds : tie.Need-loop-i-init invariant-loop decreases-loop
 loop-holds c = ((λ t k h. absurd (omega arith)), omega arith)
 
-mul-is-finite32 : tie.Need-overflow-mul-is-finite32 invariant-loop decreases-loop
+mul-is-finite32 : tie.Need-offset_bounds-xs-i invariant-loop decreases-loop
 mul-is-finite32 c = omega arith
 
-shared-slice-read-is-finite32 : tie.Need-shared-slice-read-is-finite32 invariant-loop decreases-loop
+shared-slice-read-is-finite32 : tie.Need-bounds-xs-i invariant-loop decreases-loop
 shared-slice-read-is-finite32 c = omega arith
 
-is-finite32-requires : tie.Need-is-finite32-requires invariant-loop decreases-loop
+is-finite32-requires : tie.Need-is_finite32-requires invariant-loop decreases-loop
 is-finite32-requires c κs = search rules
 
-both-requires : tie.Need-both-requires invariant-loop decreases-loop
+both-requires : tie.Need-both-ok-requires invariant-loop decreases-loop
 both-requires c κs = search rules
 
-add-i : tie.Need-overflow-add-i invariant-loop decreases-loop
+add-i : tie.Need-overflow_add-i invariant-loop decreases-loop
 add-i c = omega arith
 
-loop-less : tie.Need-loop-smaller invariant-loop decreases-loop
+loop-less : tie.Need-loop-i-smaller invariant-loop decreases-loop
 loop-less c = omega arith
 
-loop-again : tie.Need-loop-preserved invariant-loop decreases-loop
+loop-again : tie.Need-loop-i-preserved invariant-loop decreases-loop
 loop-again c =
-    let at_loop = c.before.before.before.before in
-    let start = at_loop.before.before in
-    let l = at_loop.loop in (
-      finite_next start.args.xs.now l.i l.ok c.before.is-finite32.result c.both.result l.invariant.0
-          c.before.is-finite32.ensures c.both.ensures,
+    let at_loop = c in
+    let start = at_loop in
+    let l = at_loop.loop-i in (
+      finite_next start.args.xs.now l.i l.ok c.is_finite32.result c.both-ok.result l.invariant.0
+          c.is_finite32.ensures c.both-ok.ensures,
       omega arith,
     )
 
 returns : tie.Need-returns invariant-loop decreases-loop
-returns c = let l = c.before.loop in let e : l.i ≡ length c.before.before.before.args.xs.now = omega (arith, l.invariant.1) in rw e at l.invariant.0
+returns c = let l = c.loop-i in let e : l.i ≡ length c.args.xs.now = omega (arith, l.invariant.1) in rw e at l.invariant.0
 
-pub every-finite-spec : {M : Type 1} → statement M
-every-finite-spec =
+pub every_finite_spec : {M : Type 1} → statement M
+every_finite_spec =
     tie.close
     (tie.spec
     invariant-loop

@@ -7,54 +7,54 @@ use Rattle.shape.proofs.Verdicts.{whole_least}
 use Rattle.shape.proofs.validate.first_faulty.Statement.{statement}
 use Rattle.shape.proofs.validate.first_faulty.Tie as tie
 
-abbrev invariant-loop : tie.invariant-loop
+abbrev invariant-loop : tie.invariant-loop-t
 invariant-loop vertices indices n m t₀ t = (any (faulty_at vertices indices) t ≡ false) × (t ≤ m)
 
-abbrev decreases-loop : tie.decreases-loop
+abbrev decreases-loop : tie.decreases-loop-t
 decreases-loop vertices indices n m t₀ t = m - t
 
-loop-holds : tie.Need-loop-init invariant-loop decreases-loop
+loop-holds : tie.Need-loop-t-init invariant-loop decreases-loop
 unfolding any
 loop-holds c = (refl, omega arith)
 
-whole-faulty-requires : tie.Need-whole-faulty-requires invariant-loop decreases-loop
+whole-faulty-requires : tie.Need-whole_faulty-requires invariant-loop decreases-loop
 whole-faulty-requires c κs = (refl, omega arith)
 
-returns : tie.Need-returns invariant-loop decreases-loop
+returns : tie.Need-returns-then-whole_faulty invariant-loop decreases-loop
 returns c =
-    let at_loop = c.before.before.before in
-    let start = at_loop.before.before.before in
+    let at_loop = c in
+    let start = at_loop in
     let a = start.args in
     let f = faulty_at a.vertices.now a.indices.now in
-    let l = at_loop.loop in
+    let l = at_loop.loop-t in
     least_at f (triples_of a.indices.now) l.t (omega arith) (λ j h. any_none f j l.t h l.invariant.0)
-    (sym c.before.whole-faulty.ensures ∙ c.if1.true)
+    (sym c.whole_faulty.ensures ∙ c.if-whole_faulty.true)
 
-add-t : tie.Need-overflow-add-t invariant-loop decreases-loop
+add-t : tie.Need-overflow_add-t invariant-loop decreases-loop
 add-t c = omega arith
 
-loop-less : tie.Need-loop-smaller invariant-loop decreases-loop
+loop-less : tie.Need-loop-t-smaller invariant-loop decreases-loop
 loop-less c = omega arith
 
-loop-again : tie.Need-loop-preserved invariant-loop decreases-loop
+loop-again : tie.Need-loop-t-preserved invariant-loop decreases-loop
 loop-again c =
-    let at_loop = c.before.before.before in
-    let start = at_loop.before.before.before in
+    let at_loop = c in
+    let start = at_loop in
     let a = start.args in
     let f = faulty_at a.vertices.now a.indices.now in
-    let l = at_loop.loop in
-    (rw (any_next f l.t, l.invariant.0) (sym c.before.whole-faulty.ensures ∙ c.if1.false), omega arith)
+    let l = at_loop.loop-t in
+    (rw (any_next f l.t, l.invariant.0) (sym c.whole_faulty.ensures ∙ c.if-whole_faulty.false), omega arith)
 
-returns-2 : tie.Need-returns-2 invariant-loop decreases-loop
+returns-2 : tie.Need-returns invariant-loop decreases-loop
 returns-2 c =
-    let start = c.before.before.before.before in
+    let start = c in
     let a = start.args in
-    let l = c.before.loop in
+    let l = c.loop-t in
     let e : l.t ≡ length a.indices.now / 3 = omega (arith, l.invariant.1) in
     whole_least a.vertices.now a.indices.now (rw e at l.invariant.0)
 
-pub first-faulty-spec : {M : Type 1} → statement M
-first-faulty-spec =
+pub first_faulty_spec : {M : Type 1} → statement M
+first_faulty_spec =
     tie.close
     (tie.spec
     invariant-loop

@@ -6,18 +6,18 @@ use Rattle.shape.proofs.Verdicts.{finite_sound}
 use Rattle.shape.proofs.validate.first_unsound.Statement.{statement}
 use Rattle.shape.proofs.validate.first_unsound.Tie as tie
 
-every-finite-requires : tie.Need-every-finite-requires
+every-finite-requires : tie.Need-every_finite-requires
 every-finite-requires c κs = search rules
 
-returns : tie.Need-returns
-returns c = let vs = c.before.before.before.args.vertices.now in least_none (unsound vs) (length vs / 3) (finite_sound vs (c.before.every-finite.ensures c.if1.true))
+returns : tie.Need-returns-then-every_finite
+returns c = let vs = c.args.vertices.now in least_none (unsound vs) (length vs / 3) (finite_sound vs (c.every_finite.ensures c.if-every_finite.true))
 
-search-unsound-requires : tie.Need-search-unsound-requires
+search-unsound-requires : tie.Need-search_unsound-requires
 search-unsound-requires c κs = search rules
 
-returns-2 : tie.Need-returns-2
+returns-2 : tie.Need-returns
 returns-2 c = search rules
 
-pub first-unsound-spec : {M : Type 1} → statement M
-first-unsound-spec =
+pub first_unsound_spec : {M : Type 1} → statement M
+first_unsound_spec =
     tie.close (tie.spec every-finite-requires returns search-unsound-requires returns-2)

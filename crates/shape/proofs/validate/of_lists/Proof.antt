@@ -4,24 +4,24 @@ use Rattle.shape.specs.Verdict.{validity_of, read_verdict}
 use Rattle.shape.proofs.validate.of_lists.Statement.{statement}
 use Rattle.shape.proofs.validate.of_lists.Tie as tie
 
-returns : tie.Need-returns
+returns : tie.Need-returns-then-indices-eq0
 unfolding validity_of read_verdict
-returns c = rw (eq-eqb _ _ c.if1.true)
+returns c = rw (eq-eqb _ _ c.if-indices-eq0.true)
 
-first-unsound-requires : tie.Need-first-unsound-requires
+first-unsound-requires : tie.Need-first_unsound-v-requires
 first-unsound-requires c κs = search rules
 
-returns-2 : tie.Need-returns-2
+returns-2 : tie.Need-returns-then-v-vertices
 unfolding validity_of read_verdict
-returns-2 c = rw (ne_eqb _ _ c.before.before.if1.false, ← c.before.first-unsound.ensures, lt-ltb _ _ c.if2.true)
+returns-2 c = rw (ne_eqb _ _ c.if-indices-eq0.false, ← c.first_unsound-v.ensures, lt-ltb _ _ c.if-v-vertices.true)
 
-of-triangles-requires : tie.Need-of-triangles-requires
+of-triangles-requires : tie.Need-of_triangles-requires
 of-triangles-requires c κs = search rules
 
-returns-3 : tie.Need-returns-3
+returns-3 : tie.Need-returns
 unfolding validity_of
-returns-3 c = rw (ne_eqb _ _ c.before.before.before.if1.false, ← c.before.before.first-unsound.ensures, le-ltb _ _ c.before.if2.false) c.of-triangles.ensures
+returns-3 c = rw (ne_eqb _ _ c.if-indices-eq0.false, ← c.first_unsound-v.ensures, le-ltb _ _ c.if-v-vertices.false) c.of_triangles.ensures
 
-pub of-lists-spec : {M : Type 1} → statement M
-of-lists-spec =
+pub of_lists_spec : {M : Type 1} → statement M
+of_lists_spec =
     tie.close (tie.spec returns first-unsound-requires returns-2 of-triangles-requires returns-3)

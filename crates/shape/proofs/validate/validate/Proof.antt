@@ -5,27 +5,27 @@ use Rattle.std.proofs.Common.{rules}
 use Rattle.shape.proofs.validate.validate.Statement.{statement}
 use Rattle.shape.proofs.validate.validate.Tie as tie
 
-mesh-fault-requires : tie.Need-mesh-fault-requires
+mesh-fault-requires : tie.Need-mesh_fault-f-requires
 mesh-fault-requires c κs = search rules
 
-enum-known-f : tie.Need-enum-known-f
+enum-known-f : tie.Need-enum_known-f
 enum-known-f c = search rules
 
-enum_told : tie.Need-enum-told
+enum_told : tie.Need-enum_told-1
 enum_told c = search rules
 
-of-lists-requires : tie.Need-of-lists-requires
+of-lists-requires : tie.Need-of_lists-requires
 of-lists-requires c κs = search rules
 
-returns : tie.Need-returns
+returns : tie.Need-returns-in-Faulty
 unfolding judge found read_verdict
-returns c = rw (← c.before.before.before.mesh-fault.ensures, c.before.f.given.1)
+returns c = rw (← c.mesh_fault-f.ensures, c.in-Faulty.is)
 
-returns-2 : tie.Need-returns-2
+returns-2 : tie.Need-returns-in-Fine
 unfolding judge found
-returns-2 c = rw (← c.before.before.before.mesh-fault.ensures, c.before.enum_told.given.1) c.of-lists.ensures
+returns-2 c = rw (← c.mesh_fault-f.ensures, c.in-Fine.is) c.of_lists.ensures
 
-pub validate-spec : {M : Type 1} → statement M
-validate-spec =
+pub validate_spec : {M : Type 1} → statement M
+validate_spec =
     tie.close
     (tie.spec mesh-fault-requires enum-known-f enum_told of-lists-requires returns returns-2)

@@ -4,26 +4,26 @@ use Rattle.std.proofs.Common.{rules}
 use Rattle.shape.proofs.validate.verdict_of.Statement.{statement}
 use Rattle.shape.proofs.validate.verdict_of.Tie as tie
 
-enum-known-f : tie.Need-enum-known-f
+enum-known-f : tie.Need-enum_known-f
 enum-known-f c = search rules
 
-enum_told : tie.Need-enum-told
+enum_told : tie.Need-enum_told-1
 enum_told c = search rules
 
-enum-told-2 : tie.Need-enum-told-2
+enum-told-2 : tie.Need-enum_told-in-Fine
 enum-told-2 c = search rules
 
-returns : tie.Need-returns
+returns : tie.Need-returns-in-Past
 unfolding tell read_verdict
-returns c = rw c.before.f.given.1
+returns c = rw c.in-Past.is
 
-returns-2 : tie.Need-returns-2
+returns-2 : tie.Need-returns-in-Flat
 unfolding tell read_verdict
-returns-2 c = rw c.enum_told.given.1
+returns-2 c = rw c.in-Flat.is
 
-returns-3 : tie.Need-returns-3
+returns-3 : tie.Need-returns-in-Fine
 unfolding tell read_verdict
-returns-3 c = rw c.enum-told2.given.1
+returns-3 c = rw c.in-Fine.is
 
-pub verdict-of-spec : {M : Type 1} → statement M
-verdict-of-spec = tie.close (tie.spec enum-known-f enum_told enum-told-2 returns returns-2 returns-3)
+pub verdict_of_spec : {M : Type 1} → statement M
+verdict_of_spec = tie.close (tie.spec enum-known-f enum_told enum-told-2 returns returns-2 returns-3)

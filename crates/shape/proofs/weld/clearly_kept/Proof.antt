@@ -5,27 +5,27 @@ use Rattle.shape.proofs.Welds.{keeps_one, keeps_two, keeps_three, keeps_four}
 use Rattle.shape.proofs.weld.clearly_kept.Statement.{statement}
 use Rattle.shape.proofs.weld.clearly_kept.Tie as tie
 
-returns : tie.Need-returns
+returns : tie.Need-returns-then-last-2
 unfolding of_bits
-returns c = let a = c.before.before.args in keeps_one a.square a.last c.before.if1.true c.if2.true
+returns c = let a = c.args in keeps_one a.square a.last c.if-last.true c.if-last-2.true
 
-returns-2 : tie.Need-returns-2
+returns-2 : tie.Need-returns-then-last-3
 unfolding of_bits
-returns-2 c = let a = c.before.before.before.args in keeps_two a.square a.last c.before.before.if1.true c.if3.true
+returns-2 c = let a = c.args in keeps_two a.square a.last c.if-last.true c.if-last-3.true
 
-returns-3 : tie.Need-returns-3
+returns-3 : tie.Need-returns-then-last-4
 unfolding of_bits
-returns-3 c = let a = c.before.before.before.before.args in keeps_three a.square a.last c.before.before.before.if1.true c.if4.true
+returns-3 c = let a = c.args in keeps_three a.square a.last c.if-last.true c.if-last-4.true
 
-returns-4 : tie.Need-returns-4
+returns-4 : tie.Need-returns-then-last-5
 unfolding of_bits
-returns-4 c = let a = c.before.before.before.before.before.args in keeps_four a.square a.last c.before.before.before.before.if1.true c.if5.true
+returns-4 c = let a = c.args in keeps_four a.square a.last c.if-last.true c.if-last-5.true
 
-returns-5 : tie.Need-returns-5
+returns-5 : tie.Need-returns-then-last
 returns-5 c = λ e. absurd (let z : ◌≡◌ {A = ℕ} 0 1 = cc in omega arith)
 
-returns-6 : tie.Need-returns-6
+returns-6 : tie.Need-returns
 returns-6 c = λ e. absurd (let z : ◌≡◌ {A = ℕ} 0 1 = cc in omega arith)
 
-pub clearly-kept-spec : {M : Type 1} → statement M
-clearly-kept-spec = tie.close (tie.spec returns returns-2 returns-3 returns-4 returns-5 returns-6)
+pub clearly_kept_spec : {M : Type 1} → statement M
+clearly_kept_spec = tie.close (tie.spec returns returns-2 returns-3 returns-4 returns-5 returns-6)

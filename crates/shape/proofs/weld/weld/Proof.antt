@@ -56,46 +56,46 @@ record Inv (ps : List Float) (k₀ k : List ℕ) (n : ℕ) (h : Welding) (i : �
   more : i < n
   long : length k ≡ 4096
 
-abbrev invariant-loop : tie.invariant-loop
+abbrev invariant-loop : tie.invariant-loop-i
 invariant-loop points kept₀ n h₀ i₀ kept h i = Inv points kept₀ kept n h i
 
-abbrev decreases-loop : tie.decreases-loop
+abbrev decreases-loop : tie.decreases-loop-i
 decreases-loop points kept₀ n h₀ i₀ kept h i = n - i
 
-returns : tie.Need-returns invariant-loop decreases-loop
+returns : tie.Need-returns-then-n-eq0 invariant-loop decreases-loop
 unfolding kept_of
-returns c = rw c.if1.true (record { memory = refl; ends = refl }, omega arith)
+returns c = rw c.if-n-eq0.true (record { memory = refl; ends = refl }, omega arith)
 
-loop-holds : tie.Need-loop-init invariant-loop decreases-loop
+loop-holds : tie.Need-loop-i-init invariant-loop decreases-loop
 unfolding welded sqrt_of Ieee.of_bits
-loop-holds c = record { holds = record { count = refl; last = refl; step = refl; memory = refl }; few = omega arith; old = omega arith; more = omega arith; long = c.before.before.before.requires.1 }
+loop-holds c = record { holds = record { count = refl; last = refl; step = refl; memory = refl }; few = omega arith; old = omega arith; more = omega arith; long = c.requires.1 }
 
-add-loop : tie.Need-overflow-add-loop invariant-loop decreases-loop
+add-loop : tie.Need-overflow_add-i invariant-loop decreases-loop
 add-loop c = omega arith
 
-add-weld-step : tie.Need-overflow-add-weld-step invariant-loop decreases-loop
+add-weld-step : tie.Need-overflow_add-i-in-loop-i invariant-loop decreases-loop
 add-weld-step c = omega arith
 
-weld-step-requires : tie.Need-weld-step-requires invariant-loop decreases-loop
+weld-step-requires : tie.Need-weld_step-h-requires invariant-loop decreases-loop
 weld-step-requires c κs = omega arith
 
-add-i : tie.Need-overflow-add-i invariant-loop decreases-loop
+add-i : tie.Need-overflow_add-i-in-loop-i-2 invariant-loop decreases-loop
 add-i c = omega arith
 
-loop-less : tie.Need-loop-smaller invariant-loop decreases-loop
+loop-less : tie.Need-loop-i-smaller invariant-loop decreases-loop
 loop-less c = omega arith
 
-loop-again : tie.Need-loop-preserved invariant-loop decreases-loop
+loop-again : tie.Need-loop-i-preserved invariant-loop decreases-loop
 loop-again c =
-    let at_loop = c.before.before.before.before.before in
-    let start = at_loop.before.before.before.before in
+    let at_loop = c in
+    let start = at_loop in
     let ps = start.args.points.now in
-    let at = at_loop.loop in
+    let at = at_loop.loop-i in
     let k = keeps ps at.h.last (sqrt_of binary32 at.h.square) (at.i + 1) in
-    let did = c.before.before.weld-step in
+    let did = c.weld_step-h in
     record {
       holds = rw (welded_next ps at.i)
-          (next ps start.args.kept.now at.auto did.new.1.0 at.h did.result (welded ps at.i) (at.i + 1) at.invariant.holds
+          (next ps start.args.kept.now at.kept did.new.1.0 at.h did.result (welded ps at.i) (at.i + 1) at.invariant.holds
           did.ensures.0.0 did.ensures.0.1 did.ensures.1);
       few = omega (arith, did.ensures.1.ends, cond_few k at.h.last, at.invariant.few);
       old = rw did.ensures.0.0 (cond_le k (at.i + 1) at.h.last (at.i + 1) (omega arith) (omega (arith, at.invariant.old)));
@@ -103,34 +103,34 @@ loop-again c =
       long = put_length did.ensures.1 ∙ at.invariant.long;
     }
 
-sub-weld-end : tie.Need-overflow-sub-weld-end invariant-loop decreases-loop
+sub-weld-end : tie.Need-overflow_sub-n invariant-loop decreases-loop
 sub-weld-end c = omega arith
 
-weld-end-requires : tie.Need-weld-end-requires invariant-loop decreases-loop
+weld-end-requires : tie.Need-weld_end-requires invariant-loop decreases-loop
 weld-end-requires c κs = omega arith
 
-same_length : tie.Need-same-length invariant-loop decreases-loop
+same_length : tie.Need-shape_of-kept invariant-loop decreases-loop
 same_length c =
-    let at_loop = c.before.before.before.before.before in
-    let start = at_loop.before.before.before.before in
-    put_length c.before.before.weld-end.ensures.0 ∙ at_loop.loop.invariant.long ∙ sym start.requires.1
+    let at_loop = c in
+    let start = at_loop in
+    put_length c.weld_end.ensures.0 ∙ at_loop.loop-i.invariant.long ∙ sym start.requires.1
 
-returns-2 : tie.Need-returns-2 invariant-loop decreases-loop
+returns-2 : tie.Need-returns invariant-loop decreases-loop
 returns-2 c =
-    let at_loop = c.before.before.before.before.before in
-    let start = at_loop.before.before.before.before in
+    let at_loop = c in
+    let start = at_loop in
     let ps = start.args.points.now in
-    let at = at_loop.loop in
-    let did = c.before.before.weld-end in
+    let at = at_loop.loop-i in
+    let did = c.weld_end in
     let here : length ps / 3 - 1 ≡ at.i = omega (arith, at.invariant.more) in
     let all : length ps / 3 ≡ suc at.i = omega (arith, at.invariant.more) in (
-      rw all (finish ps start.args.kept.now at.auto did.new.1.0 at.h at.i at.invariant.holds did.result
+      rw all (finish ps start.args.kept.now at.kept did.new.1.0 at.h at.i at.invariant.holds did.result
           (rw here at did.ensures.0)),
       did.ensures.1,
     )
 
-pub weld-spec : {M : Type 1} → statement M
-weld-spec =
+pub weld_spec : {M : Type 1} → statement M
+weld_spec =
     tie.close
     (tie.spec
     invariant-loop

@@ -15,54 +15,54 @@ is_step : {p q p' q' : Point} {d : Vector} {l : Float} → l ≡ length_squared_
 unfolding length_of
 is_step e s f g = rw (e, s, f, g)
 
-point-at-requires : tie.Need-point-at-requires
+point-at-requires : tie.Need-point_at-requires
 point-at-requires c κs = search rules
 
-point-at-requires-2 : tie.Need-point-at-requires-2
+point-at-requires-2 : tie.Need-point_at-requires-2
 point-at-requires-2 c κs = search rules
 
-sub-requires : tie.Need-sub-requires
+sub-requires : tie.Need-sub-d-requires
 sub-requires c κs = search rules
 
-length-squared-requires : tie.Need-length-squared-requires
+length-squared-requires : tie.Need-length_squared-square-requires
 length-squared-requires c κs = search rules
 
-is-kept-requires : tie.Need-is-kept-requires
+is-kept-requires : tie.Need-is_kept-requires
 is-kept-requires c κs = search rules
 
-put-word-requires : tie.Need-put-word-requires
+put-word-requires : tie.Need-put_word-requires
 put-word-requires c κs = search rules
 
-add-t13 : tie.Need-overflow-add-t13
+add-t13 : tie.Need-overflow_add-result
 add-t13 c = search rules
 
-same_length : tie.Need-same-length
+same_length : tie.Need-shape_of-kept-then-is_kept
 same_length c = search rules
 
-returns : tie.Need-returns
+returns : tie.Need-returns-then-is_kept
 unfolding keeps step_of
 returns c =
-    let at_put_word = c.before.before.before in
-    let at_is_kept = at_put_word.before.before.before in
-    let at_point_at2 = at_is_kept.before.before.before in
-    let e = is_step at_is_kept.before.length-squared.ensures at_is_kept.before.before.sub.ensures
-    at_point_at2.before.point_at.ensures at_point_at2.point-at2.ensures in
-    let k = rw e at (sym at_is_kept.is-kept.ensures ∙ at_put_word.before.before.if1.true) in
+    let at_put_word = c in
+    let at_is_kept = at_put_word in
+    let at_point_at2 = at_is_kept in
+    let e = is_step at_is_kept.length_squared-square.ensures at_is_kept.sub-d.ensures
+    at_point_at2.point_at.ensures at_point_at2.point_at-2.ensures in
+    let k = rw e at (sym at_is_kept.is_kept.ensures ∙ at_put_word.if-is_kept.true) in
     rw k ((refl, e), record { memory = at_put_word.put_word.ensures; ends = refl })
 
-returns-2 : tie.Need-returns-2
+returns-2 : tie.Need-returns
 unfolding keeps step_of
 returns-2 c =
-    let at_sub = c.before.before.before in
-    let start = at_sub.before.before.before.before.before in
+    let at_sub = c in
+    let start = at_sub in
     let a = start.args in
-    let e = is_step c.before.before.length-squared.ensures at_sub.sub.ensures at_sub.before.before.point_at.ensures
-    at_sub.before.point-at2.ensures in
-    let k = rw e at (sym c.before.is-kept.ensures ∙ c.if1.false) in
+    let e = is_step c.length_squared-square.ensures at_sub.sub-d.ensures at_sub.point_at.ensures
+    at_sub.point_at-2.ensures in
+    let k = rw e at (sym c.is_kept.ensures ∙ c.if-is_kept.false) in
     rw k ((refl, refl), put_none a.kept.now a.h.count)
 
-pub weld-step-spec : {M : Type 1} → statement M
-weld-step-spec =
+pub weld_step_spec : {M : Type 1} → statement M
+weld_step_spec =
     tie.close
     (tie.spec
     point-at-requires

@@ -4,13 +4,13 @@ use Rattle.shape.specs.Refusal.{found, number_of, place_of, refuse}
 use Rattle.surface.proofs.file.bad_record_if.Statement.{statement}
 use Rattle.surface.proofs.file.bad_record_if.Tie as tie
 
-returns : tie.Need-returns
+returns : tie.Need-returns-then-k-n
 unfolding refuse found number_of place_of
-returns c = rw (lt-ltb _ _ c.if1.true)
+returns c = rw (lt-ltb _ _ c.if-k-n.true)
 
-returns-2 : tie.Need-returns-2
+returns-2 : tie.Need-returns
 unfolding refuse
-returns-2 c = rw (le-ltb _ _ c.if1.false)
+returns-2 c = rw (le-ltb _ _ c.if-k-n.false)
 
-pub bad-record-if-spec : {M : Type 1} → statement M
-bad-record-if-spec = tie.close (tie.spec returns returns-2)
+pub bad_record_if_spec : {M : Type 1} → statement M
+bad_record_if_spec = tie.close (tie.spec returns returns-2)

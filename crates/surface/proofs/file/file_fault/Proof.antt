@@ -5,15 +5,15 @@ use borrow.Author.Rules.{rules}
 use Rattle.surface.proofs.file.file_fault.Statement.{statement}
 use Rattle.surface.proofs.file.file_fault.Tie as tie
 
-slice-aggregate-surface-fault : tie.Need-slice-aggregate-surface-fault
+slice-aggregate-surface-fault : tie.Need-slice_bounds-surface_fault-end
 slice-aggregate-surface-fault c = search rules
 
-surface-fault-requires : tie.Need-surface-fault-requires
+surface-fault-requires : tie.Need-surface_fault-requires
 surface-fault-requires c κs = search rules
 
 returns : tie.Need-returns
 unfolding file_fault count_in record_in
-returns c = c.surface-fault.ensures
+returns c = c.surface_fault.ensures
 
-pub file-fault-spec : {M : Type 1} → statement M
-file-fault-spec = tie.close (tie.spec slice-aggregate-surface-fault surface-fault-requires returns)
+pub file_fault_spec : {M : Type 1} → statement M
+file_fault_spec = tie.close (tie.spec slice-aggregate-surface-fault surface-fault-requires returns)

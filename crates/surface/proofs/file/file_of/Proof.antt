@@ -7,5 +7,5 @@ use Rattle.surface.proofs.file.file_of.Tie as tie
 returns : tie.Need-returns
 returns c = sym (file_same _ _)
 
-pub file-of-spec : {M : Type 1} → statement M
-file-of-spec = tie.close (tie.spec returns)
+pub file_of_spec : {M : Type 1} → statement M
+file_of_spec = tie.close (tie.spec returns)

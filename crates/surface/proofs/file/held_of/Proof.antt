@@ -7,5 +7,5 @@ use Rattle.surface.proofs.file.held_of.Tie as tie
 returns : tie.Need-returns
 returns c = sym (held_same _ _)
 
-pub held-of-spec : {M : Type 1} → statement M
-held-of-spec = tie.close (tie.spec returns)
+pub held_of_spec : {M : Type 1} → statement M
+held_of_spec = tie.close (tie.spec returns)

@@ -5,83 +5,83 @@ use borrow.Author.Rules.{rules}
 use Rattle.surface.proofs.file.held_record.Statement.{statement}
 use Rattle.surface.proofs.file.held_record.Tie as tie
 
-mul-i : tie.Need-overflow-mul-i
+mul-i : tie.Need-overflow_mul-i
 mul-i c = search rules
 
-mul-t4 : tie.Need-overflow-mul-t4
+mul-t4 : tie.Need-offset_bounds-held-i
 mul-t4 c = search rules
 
-shared-slice-read-t6 : tie.Need-shared-slice-read-t6
+shared-slice-read-t6 : tie.Need-bounds-held-i
 shared-slice-read-t6 c = search rules
 
-add-t7 : tie.Need-overflow-add-t7
+add-t7 : tie.Need-overflow_add-result
 add-t7 c = search rules
 
-mul-t8 : tie.Need-overflow-mul-t8
+mul-t8 : tie.Need-offset_bounds-held-i-2
 mul-t8 c = search rules
 
-shared-slice-read-t10 : tie.Need-shared-slice-read-t10
+shared-slice-read-t10 : tie.Need-bounds-held-i-2
 shared-slice-read-t10 c = search rules
 
-add-t11 : tie.Need-overflow-add-t11
+add-t11 : tie.Need-overflow_add-result-2
 add-t11 c = search rules
 
-mul-t12 : tie.Need-overflow-mul-t12
+mul-t12 : tie.Need-offset_bounds-held-i-3
 mul-t12 c = search rules
 
-shared-slice-read-t14 : tie.Need-shared-slice-read-t14
+shared-slice-read-t14 : tie.Need-bounds-held-i-3
 shared-slice-read-t14 c = search rules
 
-add-t15 : tie.Need-overflow-add-t15
+add-t15 : tie.Need-overflow_add-result-3
 add-t15 c = search rules
 
-mul-t16 : tie.Need-overflow-mul-t16
+mul-t16 : tie.Need-offset_bounds-held-i-4
 mul-t16 c = search rules
 
-shared-slice-read-t18 : tie.Need-shared-slice-read-t18
+shared-slice-read-t18 : tie.Need-bounds-held-i-4
 shared-slice-read-t18 c = search rules
 
-add-t19 : tie.Need-overflow-add-t19
+add-t19 : tie.Need-overflow_add-result-4
 add-t19 c = search rules
 
-mul-t20 : tie.Need-overflow-mul-t20
+mul-t20 : tie.Need-offset_bounds-held-i-5
 mul-t20 c = search rules
 
-shared-slice-read-t22 : tie.Need-shared-slice-read-t22
+shared-slice-read-t22 : tie.Need-bounds-held-i-5
 shared-slice-read-t22 c = search rules
 
-add-t23 : tie.Need-overflow-add-t23
+add-t23 : tie.Need-overflow_add-result-5
 add-t23 c = search rules
 
-mul-t24 : tie.Need-overflow-mul-t24
+mul-t24 : tie.Need-offset_bounds-held-i-6
 mul-t24 c = search rules
 
-shared-slice-read-t26 : tie.Need-shared-slice-read-t26
+shared-slice-read-t26 : tie.Need-bounds-held-i-6
 shared-slice-read-t26 c = search rules
 
-add-t27 : tie.Need-overflow-add-t27
+add-t27 : tie.Need-overflow_add-result-6
 add-t27 c = search rules
 
-mul-t28 : tie.Need-overflow-mul-t28
+mul-t28 : tie.Need-offset_bounds-held-i-7
 mul-t28 c = search rules
 
-shared-slice-read-t30 : tie.Need-shared-slice-read-t30
+shared-slice-read-t30 : tie.Need-bounds-held-i-7
 shared-slice-read-t30 c = search rules
 
-add-t31 : tie.Need-overflow-add-t31
+add-t31 : tie.Need-overflow_add-result-7
 add-t31 c = search rules
 
-mul-t32 : tie.Need-overflow-mul-t32
+mul-t32 : tie.Need-offset_bounds-held-i-8
 mul-t32 c = search rules
 
-shared-slice-read-t34 : tie.Need-shared-slice-read-t34
+shared-slice-read-t34 : tie.Need-bounds-held-i-8
 shared-slice-read-t34 c = search rules
 
 returns : tie.Need-returns
-returns c = sym (held_words _ _ c.before.before.before.before.before.before.before.before.requires)
+returns c = sym (held_words _ _ c.requires)
 
-pub held-record-spec : {M : Type 1} → statement M
-held-record-spec =
+pub held_record_spec : {M : Type 1} → statement M
+held_record_spec =
     tie.close
     (tie.spec
     mul-i

@@ -7,11 +7,11 @@ use Rattle.surface.proofs.file.spare_filled.Tie as tie
 spare-requires : tie.Need-spare-requires
 spare-requires c κs = search rules
 
-returns : tie.Need-returns
-returns c = rw (sym c.before.spare.ensures ∙ c.if1.true)
+returns : tie.Need-returns-then-spare
+returns c = rw (sym c.spare.ensures ∙ c.if-spare.true)
 
-returns-2 : tie.Need-returns-2
-returns-2 c = rw (sym c.before.spare.ensures ∙ c.if1.false)
+returns-2 : tie.Need-returns
+returns-2 c = rw (sym c.spare.ensures ∙ c.if-spare.false)
 
-pub spare-filled-spec : {M : Type 1} → statement M
-spare-filled-spec = tie.close (tie.spec spare-requires returns returns-2)
+pub spare_filled_spec : {M : Type 1} → statement M
+spare_filled_spec = tie.close (tie.spec spare-requires returns returns-2)

@@ -10,53 +10,53 @@ use native.Mathlib.Omega.{arith}
 use Rattle.surface.proofs.file.spare_used.Statement.{statement}
 use Rattle.surface.proofs.file.spare_used.Tie as tie
 
-abbrev invariant-loop : tie.invariant-loop
+abbrev invariant-loop : tie.invariant-loop-j
 invariant-loop form words kind j₀ j = (any (spare_used form words) j ≡ false) × (kind ≡ get_or words 0 0) × (j ≤ 8)
 
-abbrev decreases-loop : tie.decreases-loop
+abbrev decreases-loop : tie.decreases-loop-j
 decreases-loop form words kind j₀ j = 8 - j
 
-array-read-kind : tie.Need-array-read-kind invariant-loop decreases-loop
+array-read-kind : tie.Need-bounds-words-0 invariant-loop decreases-loop
 array-read-kind c = omega arith
 
-loop-holds : tie.Need-loop-init invariant-loop decreases-loop
+loop-holds : tie.Need-loop-j-init invariant-loop decreases-loop
 unfolding any
 loop-holds c = (refl, refl, omega arith)
 
-mul-spare-filled : tie.Need-overflow-mul-spare-filled invariant-loop decreases-loop
+mul-spare-filled : tie.Need-offset_bounds-words-j invariant-loop decreases-loop
 mul-spare-filled c = omega arith
 
-array-read-spare-filled : tie.Need-array-read-spare-filled invariant-loop decreases-loop
+array-read-spare-filled : tie.Need-bounds-words-j invariant-loop decreases-loop
 array-read-spare-filled c = omega arith
 
-spare-filled-requires : tie.Need-spare-filled-requires invariant-loop decreases-loop
+spare-filled-requires : tie.Need-spare_filled-requires invariant-loop decreases-loop
 spare-filled-requires c κs = omega arith
 
-returns : tie.Need-returns invariant-loop decreases-loop
+returns : tie.Need-returns-then-spare_filled invariant-loop decreases-loop
 unfolding spare_used
 returns c =
-    let l = c.before.before.before.loop in
-    let a = c.before.before.before.before.before.args in
-    sym (any_some (spare_used a.form a.r.words) l.j 8 (omega arith) (rw (← l.invariant.1) (sym c.before.spare-filled.ensures ∙ c.if1.true)))
+    let l = c.loop-j in
+    let a = c.args in
+    sym (any_some (spare_used a.form a.r.words) l.j 8 (omega arith) (rw (← l.invariant.1) (sym c.spare_filled.ensures ∙ c.if-spare_filled.true)))
 
-add-j : tie.Need-overflow-add-j invariant-loop decreases-loop
+add-j : tie.Need-overflow_add-j invariant-loop decreases-loop
 add-j c = omega arith
 
-loop-less : tie.Need-loop-smaller invariant-loop decreases-loop
+loop-less : tie.Need-loop-j-smaller invariant-loop decreases-loop
 loop-less c = omega arith
 
-loop-again : tie.Need-loop-preserved invariant-loop decreases-loop
+loop-again : tie.Need-loop-j-preserved invariant-loop decreases-loop
 unfolding spare_used
 loop-again c =
-    let l = c.before.before.before.loop in
-    let a = c.before.before.before.before.before.args in
-    (rw (any_next (spare_used a.form a.r.words) l.j, l.invariant.0, ← l.invariant.1) (sym c.before.spare-filled.ensures ∙ c.if1.false), l.invariant.1, omega arith)
+    let l = c.loop-j in
+    let a = c.args in
+    (rw (any_next (spare_used a.form a.r.words) l.j, l.invariant.0, ← l.invariant.1) (sym c.spare_filled.ensures ∙ c.if-spare_filled.false), l.invariant.1, omega arith)
 
-returns-2 : tie.Need-returns-2 invariant-loop decreases-loop
-returns-2 c = let l = c.before.loop in let e : l.j ≡ 8 = omega (arith, l.invariant.2) in sym (rw e at l.invariant.0)
+returns-2 : tie.Need-returns invariant-loop decreases-loop
+returns-2 c = let l = c.loop-j in let e : l.j ≡ 8 = omega (arith, l.invariant.2) in sym (rw e at l.invariant.0)
 
-pub spare-used-spec : {M : Type 1} → statement M
-spare-used-spec =
+pub spare_used_spec : {M : Type 1} → statement M
+spare_used_spec =
     tie.close
     (tie.spec
     invariant-loop

@@ -11,55 +11,55 @@ use native.Mathlib.Omega.{arith}
 use Rattle.surface.proofs.held.count_kind.Statement.{statement}
 use Rattle.surface.proofs.held.count_kind.Tie as tie
 
-abbrev invariant-loop : tie.invariant-loop
+abbrev invariant-loop : tie.invariant-loop-k
 invariant-loop bytes kind n found₀ k₀ found k = (found ≡ how_many (is_kind (words_of bytes) kind) k) × (k ≤ n) × (n ≡ length (words_of bytes) / 8)
 
-abbrev decreases-loop : tie.decreases-loop
+abbrev decreases-loop : tie.decreases-loop-k
 decreases-loop bytes kind n found₀ k₀ found k = n - k
 
-loop-holds : tie.Need-loop-init invariant-loop decreases-loop
+loop-holds : tie.Need-loop-k-init invariant-loop decreases-loop
 unfolding how_many
-loop-holds c = (refl, omega arith, omega (arith, words_length c.before.args.bytes.now))
+loop-holds c = (refl, omega arith, omega (arith, words_length c.args.bytes.now))
 
 word-requires : tie.Need-word-requires invariant-loop decreases-loop
 word-requires c κs = omega arith
 
-one-if-requires : tie.Need-one-if-requires invariant-loop decreases-loop
+one-if-requires : tie.Need-one_if-found-requires invariant-loop decreases-loop
 one-if-requires c κs = omega arith
 
-add-found : tie.Need-overflow-add-found invariant-loop decreases-loop
+add-found : tie.Need-overflow_add-found invariant-loop decreases-loop
 add-found c =
-    let at_loop = c.before.before.before in
-    let start = at_loop.before.before in
+    let at_loop = c in
+    let start = at_loop in
     let a = start.args in
-    let l = at_loop.loop in
+    let l = at_loop.loop-k in
     omega (
       arith,
-      c.one-if.ensures,
-      one_at_most (eqb c.before.word.result a.kind),
+      c.one_if-found.ensures,
+      one_at_most (eqb c.word.result a.kind),
       how_many_le (is_kind (words_of a.bytes.now) a.kind) l.k,
       l.invariant,
       start.requires,
     )
 
-add-k : tie.Need-overflow-add-k invariant-loop decreases-loop
+add-k : tie.Need-overflow_add-k invariant-loop decreases-loop
 add-k c = omega arith
 
-loop-less : tie.Need-loop-smaller invariant-loop decreases-loop
+loop-less : tie.Need-loop-k-smaller invariant-loop decreases-loop
 loop-less c = omega arith
 
-loop-again : tie.Need-loop-preserved invariant-loop decreases-loop
+loop-again : tie.Need-loop-k-preserved invariant-loop decreases-loop
 unfolding is_kind
 loop-again c =
-    let at_loop = c.before.before.before in
-    let start = at_loop.before.before in
+    let at_loop = c in
+    let start = at_loop in
     let a = start.args in
-    let l = at_loop.loop in (
+    let l = at_loop.loop-k in (
       rw (
         how_many_next (is_kind (words_of a.bytes.now) a.kind) l.k,
         ← l.invariant.0,
-        ← c.before.word.ensures,
-        ← c.one-if.ensures,
+        ← c.word.ensures,
+        ← c.one_if-found.ensures,
       ),
       omega arith,
       l.invariant.2,
@@ -67,10 +67,10 @@ loop-again c =
 
 returns : tie.Need-returns invariant-loop decreases-loop
 unfolding count_kind
-returns c = let l = c.before.loop in let e : l.k ≡ length (words_of c.before.before.before.args.bytes.now) / 8 = omega (arith, l.invariant) in rw e at l.invariant.0
+returns c = let l = c.loop-k in let e : l.k ≡ length (words_of c.args.bytes.now) / 8 = omega (arith, l.invariant) in rw e at l.invariant.0
 
-pub count-kind-spec : {M : Type 1} → statement M
-count-kind-spec =
+pub count_kind_spec : {M : Type 1} → statement M
+count_kind_spec =
     tie.close
     (tie.spec
     invariant-loop

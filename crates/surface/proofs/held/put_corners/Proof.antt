@@ -10,53 +10,53 @@ use Rattle.surface.proofs.held.put_corners.Tie as tie
 word-requires : tie.Need-word-requires
 word-requires c κs = search rules
 
-mul-out : tie.Need-overflow-mul-out
+mul-out : tie.Need-offset_bounds-out-at
 mul-out c = search rules
 
-slice-write-out : tie.Need-slice-write-out
+slice-write-out : tie.Need-bounds-out-at
 slice-write-out c = search rules
 
-add-word : tie.Need-overflow-add-word
+add-word : tie.Need-overflow_add-word
 add-word c = search rules
 
 word-requires-2 : tie.Need-word-requires-2
 word-requires-2 c κs = search rules
 
-add-out : tie.Need-overflow-add-out
+add-out : tie.Need-overflow_add-out
 add-out c = search rules
 
-mul-out-2 : tie.Need-overflow-mul-out-2
+mul-out-2 : tie.Need-offset_bounds-out-at-2
 mul-out-2 c = search rules
 
-slice-write-out-2 : tie.Need-slice-write-out-2
+slice-write-out-2 : tie.Need-bounds-out-at-2
 slice-write-out-2 c = simp length-set (omega arith)
 
-add-word-2 : tie.Need-overflow-add-word-2
+add-word-2 : tie.Need-overflow_add-word-2
 add-word-2 c = search rules
 
 word-requires-3 : tie.Need-word-requires-3
 word-requires-3 c κs = search rules
 
-add-out-2 : tie.Need-overflow-add-out-2
+add-out-2 : tie.Need-overflow_add-out-2
 add-out-2 c = search rules
 
-mul-out-3 : tie.Need-overflow-mul-out-3
+mul-out-3 : tie.Need-offset_bounds-out-at-3
 mul-out-3 c = search rules
 
-slice-write-out-3 : tie.Need-slice-write-out-3
+slice-write-out-3 : tie.Need-bounds-out-at-3
 slice-write-out-3 c = simp length-set (omega arith)
 
-add-result : tie.Need-overflow-add-result
+add-result : tie.Need-overflow_add-result
 add-result c = search rules
 
-same_length : tie.Need-same-length
+same_length : tie.Need-shape_of-out
 same_length c = search rules
 
 returns : tie.Need-returns
-returns c = record { memory = rw (c.before.before.word.ensures, c.before.word2.ensures, c.word3.ensures) (simp towards_suc); ends = refl }
+returns c = record { memory = rw (c.word.ensures, c.word-2.ensures, c.word-3.ensures) (simp towards_suc); ends = refl }
 
-pub put-corners-spec : {M : Type 1} → statement M
-put-corners-spec =
+pub put_corners_spec : {M : Type 1} → statement M
+put_corners_spec =
     tie.close
     (tie.spec
     word-requires

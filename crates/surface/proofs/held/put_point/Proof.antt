@@ -7,32 +7,32 @@ use borrow.Author.Rules.{rules}
 use Rattle.surface.proofs.held.put_point.Statement.{statement}
 use Rattle.surface.proofs.held.put_point.Tie as tie
 
-mul-out : tie.Need-overflow-mul-out
+mul-out : tie.Need-offset_bounds-out-at
 mul-out c = search rules
 
-slice-write-out : tie.Need-slice-write-out
+slice-write-out : tie.Need-bounds-out-at
 slice-write-out c = search rules
 
-add-out : tie.Need-overflow-add-out
+add-out : tie.Need-overflow_add-out
 add-out c = search rules
 
-mul-out-2 : tie.Need-overflow-mul-out-2
+mul-out-2 : tie.Need-offset_bounds-out-at-2
 mul-out-2 c = search rules
 
-slice-write-out-2 : tie.Need-slice-write-out-2
+slice-write-out-2 : tie.Need-bounds-out-at-2
 slice-write-out-2 c = simp length-set (omega arith)
 
-add-result : tie.Need-overflow-add-result
+add-result : tie.Need-overflow_add-result
 add-result c = search rules
 
-same_length : tie.Need-same-length
+same_length : tie.Need-shape_of-out
 same_length c = search rules
 
 returns : tie.Need-returns
 returns c = record { memory = simp towards_suc; ends = refl }
 
-pub put-point-spec : {M : Type 1} → statement M
-put-point-spec =
+pub put_point_spec : {M : Type 1} → statement M
+put_point_spec =
     tie.close
     (tie.spec
     mul-out

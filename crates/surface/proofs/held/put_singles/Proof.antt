@@ -10,53 +10,53 @@ use Rattle.surface.proofs.held.put_singles.Tie as tie
 single-requires : tie.Need-single-requires
 single-requires c κs = search rules
 
-mul-out : tie.Need-overflow-mul-out
+mul-out : tie.Need-offset_bounds-out-at
 mul-out c = search rules
 
-slice-write-out : tie.Need-slice-write-out
+slice-write-out : tie.Need-bounds-out-at
 slice-write-out c = search rules
 
-add-single : tie.Need-overflow-add-single
+add-single : tie.Need-overflow_add-j
 add-single c = search rules
 
 single-requires-2 : tie.Need-single-requires-2
 single-requires-2 c κs = search rules
 
-add-out : tie.Need-overflow-add-out
+add-out : tie.Need-overflow_add-out
 add-out c = search rules
 
-mul-out-2 : tie.Need-overflow-mul-out-2
+mul-out-2 : tie.Need-offset_bounds-out-at-2
 mul-out-2 c = search rules
 
-slice-write-out-2 : tie.Need-slice-write-out-2
+slice-write-out-2 : tie.Need-bounds-out-at-2
 slice-write-out-2 c = simp length-set (omega arith)
 
-add-single-2 : tie.Need-overflow-add-single-2
+add-single-2 : tie.Need-overflow_add-j-2
 add-single-2 c = search rules
 
 single-requires-3 : tie.Need-single-requires-3
 single-requires-3 c κs = search rules
 
-add-out-2 : tie.Need-overflow-add-out-2
+add-out-2 : tie.Need-overflow_add-out-2
 add-out-2 c = search rules
 
-mul-out-3 : tie.Need-overflow-mul-out-3
+mul-out-3 : tie.Need-offset_bounds-out-at-3
 mul-out-3 c = search rules
 
-slice-write-out-3 : tie.Need-slice-write-out-3
+slice-write-out-3 : tie.Need-bounds-out-at-3
 slice-write-out-3 c = simp length-set (omega arith)
 
-add-result : tie.Need-overflow-add-result
+add-result : tie.Need-overflow_add-result
 add-result c = search rules
 
-same_length : tie.Need-same-length
+same_length : tie.Need-shape_of-out
 same_length c = search rules
 
 returns : tie.Need-returns
-returns c = record { memory = rw (c.before.before.single.ensures, c.before.single2.ensures, c.single3.ensures) (simp towards_suc); ends = refl }
+returns c = record { memory = rw (c.single.ensures, c.single-2.ensures, c.single-3.ensures) (simp towards_suc); ends = refl }
 
-pub put-singles-spec : {M : Type 1} → statement M
-put-singles-spec =
+pub put_singles_spec : {M : Type 1} → statement M
+put_singles_spec =
     tie.close
     (tie.spec
     single-requires

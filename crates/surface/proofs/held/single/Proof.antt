@@ -7,12 +7,12 @@ use Rattle.surface.proofs.held.single.Tie as tie
 word-requires : tie.Need-word-requires
 word-requires c κs = search rules
 
-from-bits32-requires : tie.Need-from-bits32-requires
+from-bits32-requires : tie.Need-from_bits32-requires
 from-bits32-requires c κs = search rules
 
 returns : tie.Need-returns
 unfolding single_in
-returns c = rw (c.from-bits32.ensures, c.before.word.ensures)
+returns c = rw (c.from_bits32.ensures, c.word.ensures)
 
-pub single-spec : {M : Type 1} → statement M
-single-spec = tie.close (tie.spec word-requires from-bits32-requires returns)
+pub single_spec : {M : Type 1} → statement M
+single_spec = tie.close (tie.spec word-requires from-bits32-requires returns)

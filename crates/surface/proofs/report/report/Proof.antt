@@ -4,55 +4,55 @@ use borrow.Author.Rules.{rules}
 use Rattle.surface.proofs.report.report.Statement.{statement}
 use Rattle.surface.proofs.report.report.Tie as tie
 
-file-fault-requires : tie.Need-file-fault-requires
+file-fault-requires : tie.Need-file_fault-check-requires
 file-fault-requires c κs = search rules
 
-enum-known-check : tie.Need-enum-known-check
+enum-known-check : tie.Need-enum_known-check
 enum-known-check c = search rules
 
-tell-refusal-requires : tie.Need-tell-refusal-requires
+tell-refusal-requires : tie.Need-tell_refusal-requires
 tell-refusal-requires c κs =
-    let k = c.before.before in
-    let f = k.before.before in
-    let s = f.before.before.before in
-    file_place s.args.bytes.now f.file-fault.ensures k.check.given.1
+    let k = c in
+    let f = k in
+    let s = f in
+    file_place s.args.bytes.now f.file_fault-check.ensures k.in-Faulty.is
 
-same_length : tie.Need-same-length
+same_length : tie.Need-shape_of-text-in-Faulty
 same_length c = search rules
 
-returns : tie.Need-returns
+returns : tie.Need-returns-in-Faulty
 returns c =
-    let q = c.before.before in
-    let k = q.before.before.before in
-    let f = k.before.before in
-    let s = f.before.before.before in
+    let q = c in
+    let k = q in
+    let f = k in
+    let s = f in
     let bs = s.args.bytes.now in
-    reported bs s.args.text.now (says_same (file_refused bs f.file-fault.ensures k.check.given.1) q.tell-refusal.ensures)
+    reported bs s.args.text.now (says_same (file_refused bs f.file_fault-check.ensures k.in-Faulty.is) q.tell_refusal.ensures)
 
-enum_told : tie.Need-enum-told
+enum_told : tie.Need-enum_told-1
 enum_told c = search rules
 
-tell-surface-requires : tie.Need-tell-surface-requires
+tell-surface-requires : tie.Need-tell_surface-requires
 tell-surface-requires c κs =
-    let k = c.before in
-    let f = k.before.before in
-    let s = f.before.before.before in
-    file_few s.args.bytes.now f.file-fault.ensures k.enum_told.given.1
+    let k = c in
+    let f = k in
+    let s = f in
+    file_few s.args.bytes.now f.file_fault-check.ensures k.in_default.is
 
-same-length-2 : tie.Need-same-length-2
+same-length-2 : tie.Need-shape_of-text
 same-length-2 c = search rules
 
-returns-2 : tie.Need-returns-2
+returns-2 : tie.Need-returns
 returns-2 c =
-    let q = c.before.before in
-    let k = q.before.before in
-    let f = k.before.before in
-    let s = f.before.before.before in
+    let q = c in
+    let k = q in
+    let f = k in
+    let s = f in
     let bs = s.args.bytes.now in
-    reported bs s.args.text.now (says_same (file_text bs f.file-fault.ensures k.enum_told.given.1) q.tell-surface.ensures)
+    reported bs s.args.text.now (says_same (file_text bs f.file_fault-check.ensures k.in_default.is) q.tell_surface.ensures)
 
-pub report-spec : {M : Type 1} → statement M
-report-spec =
+pub report_spec : {M : Type 1} → statement M
+report_spec =
     tie.close
     (tie.spec
     file-fault-requires

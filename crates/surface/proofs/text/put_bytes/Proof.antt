@@ -11,52 +11,52 @@ use Rattle.surface.proofs.Texts.{byte_turn}
 use Rattle.surface.proofs.text.put_bytes.Statement.{statement}
 use Rattle.surface.proofs.text.put_bytes.Tie as tie
 
-abbrev invariant-loop : tie.invariant-loop
+abbrev invariant-loop : tie.invariant-loop-i
 invariant-loop out₀ at bytes i₀ out i = Put out₀ out at (take i bytes) (at + i) × (i ≤ length bytes) × (length out ≡ length out₀)
 
-abbrev decreases-loop : tie.decreases-loop
+abbrev decreases-loop : tie.decreases-loop-i
 decreases-loop out₀ at bytes i₀ out i = length bytes - i
 
-loop-holds : tie.Need-loop-init invariant-loop decreases-loop
+loop-holds : tie.Need-loop-i-init invariant-loop decreases-loop
 loop-holds c = let a = c.args in (rw (add-zero a.at) (put_none a.out.now a.at), omega arith, omega arith)
 
-shared-slice-read-out : tie.Need-shared-slice-read-out invariant-loop decreases-loop
+shared-slice-read-out : tie.Need-bounds-bytes-i invariant-loop decreases-loop
 shared-slice-read-out c = omega arith
 
-add-out : tie.Need-overflow-add-out invariant-loop decreases-loop
+add-out : tie.Need-overflow_add-out invariant-loop decreases-loop
 add-out c = omega arith
 
-slice-write-out : tie.Need-slice-write-out invariant-loop decreases-loop
+slice-write-out : tie.Need-bounds-out-at invariant-loop decreases-loop
 slice-write-out c = omega arith
 
-add-i : tie.Need-overflow-add-i invariant-loop decreases-loop
+add-i : tie.Need-overflow_add-i invariant-loop decreases-loop
 add-i c = omega arith
 
-loop-less : tie.Need-loop-smaller invariant-loop decreases-loop
+loop-less : tie.Need-loop-i-smaller invariant-loop decreases-loop
 loop-less c = omega arith
 
-loop-again : tie.Need-loop-preserved invariant-loop decreases-loop
+loop-again : tie.Need-loop-i-preserved invariant-loop decreases-loop
 loop-again c =
-    let a = c.before.before.before.args in
-    let l = c.before.before.loop in
-    (byte_turn a.bytes.now a.out.now l.out a.at l.i c.before.loop-test.true l.invariant.0, omega arith, simp length-set l.invariant.2)
+    let a = c.args in
+    let l = c.loop-i in
+    (byte_turn a.bytes.now a.out.now l.out a.at l.i c.loop-i-test.true l.invariant.0, omega arith, simp length-set l.invariant.2)
 
-add-result : tie.Need-overflow-add-result invariant-loop decreases-loop
+add-result : tie.Need-overflow_add-result invariant-loop decreases-loop
 add-result c = omega arith
 
-same_length : tie.Need-same-length invariant-loop decreases-loop
+same_length : tie.Need-shape_of-out invariant-loop decreases-loop
 same_length c = omega arith
 
 returns : tie.Need-returns invariant-loop decreases-loop
 returns c =
-    let bs = c.before.before.args.bytes.now in
-    let l = c.before.loop in
-    let e : l.i ≡ length bs = omega (arith, l.invariant.1, c.loop-test.false) in
+    let bs = c.args.bytes.now in
+    let l = c.loop-i in
+    let e : l.i ≡ length bs = omega (arith, l.invariant.1, c.loop-i-test.false) in
     let f : take l.i bs ≡ bs = rw e (take-length bs) in
     rw f at l.invariant.0
 
-pub put-bytes-spec : {M : Type 1} → statement M
-put-bytes-spec =
+pub put_bytes_spec : {M : Type 1} → statement M
+put_bytes_spec =
     tie.close
     (tie.spec
     invariant-loop

@@ -4,28 +4,20 @@ use borrow.Author.Rules.{rules}
 use Rattle.surface.proofs.text.put_refused.Statement.{statement}
 use Rattle.surface.proofs.text.put_refused.Tie as tie
 
-slice-aggregate-put-pair : tie.Need-slice-aggregate-put-pair
-slice-aggregate-put-pair c = search rules
-
-slice-aggregate-put-pair-2 : tie.Need-slice-aggregate-put-pair-2
-slice-aggregate-put-pair-2 c = search rules
-
-put-pair-requires : tie.Need-put-pair-requires
+put-pair-requires : tie.Need-put_pair-requires
 put-pair-requires c κs = search rules
 
-same_length : tie.Need-same-length
+same_length : tie.Need-shape_of-out
 same_length c = search rules
 
 returns : tie.Need-returns
 unfolding refused_line
-returns c = c.before.before.put-pair.ensures
+returns c = c.put_pair.ensures
 
-pub put-refused-spec : {M : Type 1} → statement M
-put-refused-spec =
+pub put_refused_spec : {M : Type 1} → statement M
+put_refused_spec =
     tie.close
     (tie.spec
-    slice-aggregate-put-pair
-    slice-aggregate-put-pair-2
     put-pair-requires
     same_length
     returns)

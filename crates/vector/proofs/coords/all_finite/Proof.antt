@@ -4,32 +4,32 @@ use Rattle.vector.specs.Coords.{all_finite}
 use Rattle.vector.proofs.coords.all_finite.Statement.{statement}
 use Rattle.vector.proofs.coords.all_finite.Tie as tie
 
-is-finite32-requires : tie.Need-is-finite32-requires
+is-finite32-requires : tie.Need-is_finite32-requires
 is-finite32-requires c κs = search rules
 
-is-finite32-requires-2 : tie.Need-is-finite32-requires-2
+is-finite32-requires-2 : tie.Need-is_finite32-requires-then-is_finite32
 is-finite32-requires-2 c κs = search rules
 
-is-finite32-requires-3 : tie.Need-is-finite32-requires-3
+is-finite32-requires-3 : tie.Need-is_finite32-requires-then-is_finite32-2
 is-finite32-requires-3 c κs = search rules
 
-returns : tie.Need-returns
+returns : tie.Need-returns-then-is_finite32-2
 unfolding all_finite
 returns c =
-    let at_if1 = c.before.before.before in
-    rw (← at_if1.before.is-finite32.ensures, at_if1.if1.true, ← c.before.before.is-finite322.ensures, c.before.if2.true)
-    c.is-finite323.ensures
+    let at_if1 = c in
+    rw (← at_if1.is_finite32.ensures, at_if1.if-is_finite32.true, ← c.is_finite32-then-is_finite32.ensures, c.if-is_finite32-2.true)
+    c.is_finite32-then-is_finite32-2.ensures
 
-returns-2 : tie.Need-returns-2
+returns-2 : tie.Need-returns-else-is_finite32-2
 unfolding all_finite
-returns-2 c = rw (← c.before.before.before.is-finite32.ensures, c.before.before.if1.true, ← c.before.is-finite322.ensures, c.if2.false)
+returns-2 c = rw (← c.is_finite32.ensures, c.if-is_finite32.true, ← c.is_finite32-then-is_finite32.ensures, c.if-is_finite32-2.false)
 
-returns-3 : tie.Need-returns-3
+returns-3 : tie.Need-returns-else-is_finite32
 unfolding all_finite
-returns-3 c = rw (← c.before.is-finite32.ensures, c.if1.false)
+returns-3 c = rw (← c.is_finite32.ensures, c.if-is_finite32.false)
 
-pub all-finite-spec : {M : Type 1} → statement M
-all-finite-spec =
+pub all_finite_spec : {M : Type 1} → statement M
+all_finite_spec =
     tie.close
     (tie.spec
     is-finite32-requires

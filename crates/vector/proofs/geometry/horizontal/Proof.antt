@@ -8,5 +8,5 @@ returns : tie.Need-returns
 unfolding horizontal_of
 returns c = refl
 
-pub horizontal-spec : {M : Type 1} → statement M
-horizontal-spec = tie.close (tie.spec returns)
+pub horizontal_spec : {M : Type 1} → statement M
+horizontal_spec = tie.close (tie.spec returns)

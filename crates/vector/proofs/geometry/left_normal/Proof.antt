@@ -11,13 +11,13 @@ horizontal-requires c κs = search rules
 cross-requires : tie.Need-cross-requires
 cross-requires c κs = search rules
 
-normalize-or-zero-requires : tie.Need-normalize-or-zero-requires
+normalize-or-zero-requires : tie.Need-normalize_or_zero-requires
 normalize-or-zero-requires c κs = search rules
 
 returns : tie.Need-returns
 unfolding left_normal_of up_vector
-returns c = rw (c.normalize-or-zero.ensures, c.before.cross.ensures, c.before.before.horizontal.ensures)
+returns c = rw (c.normalize_or_zero.ensures, c.cross.ensures, c.horizontal.ensures)
 
-pub left-normal-spec : {M : Type 1} → statement M
-left-normal-spec =
+pub left_normal_spec : {M : Type 1} → statement M
+left_normal_spec =
     tie.close (tie.spec horizontal-requires cross-requires normalize-or-zero-requires returns)

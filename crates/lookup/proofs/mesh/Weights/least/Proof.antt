@@ -11,7 +11,7 @@ lesser-requires-2 : tie.Need-lesser-requires-2
 lesser-requires-2 c κs = search rules
 
 returns : tie.Need-returns
-returns c = low_outside _ _ _ c.before.lesser.ensures c.lesser2.ensures
+returns c = low_outside _ _ _ c.lesser.ensures c.lesser-2.ensures
 
-pub least-spec : {M : Type 1} → statement M
-least-spec = tie.close (tie.spec lesser-requires lesser-requires-2 returns)
+pub least_spec : {M : Type 1} → statement M
+least_spec = tie.close (tie.spec lesser-requires lesser-requires-2 returns)

@@ -17,27 +17,27 @@ add-requires c κs = search rules
 mul-requires-3 : tie.Need-mul-requires-3
 mul-requires-3 c κs = search rules
 
-add-requires-2 : tie.Need-add-requires-2
+add-requires-2 : tie.Need-add-sum-requires
 add-requires-2 c κs = search rules
 
-normalize-or-requires : tie.Need-normalize-or-requires
+normalize-or-requires : tie.Need-normalize_or-requires
 normalize-or-requires c κs = search rules
 
 returns : tie.Need-returns
 unfolding smooth_of up_vector
 returns c =
-    let at_add = c.before.before.before in
+    let at_add = c in
     rw (
-      c.normalize-or.ensures,
-      c.before.add2.ensures,
-      c.before.before.mul3.ensures,
+      c.normalize_or.ensures,
+      c.add-sum.ensures,
+      c.mul-3.ensures,
       at_add.add.ensures,
-      at_add.before.mul2.ensures,
-      at_add.before.before.mul.ensures,
+      at_add.mul-2.ensures,
+      at_add.mul.ensures,
     )
 
-pub smooth-spec : {M : Type 1} → statement M
-smooth-spec =
+pub smooth_spec : {M : Type 1} → statement M
+smooth_spec =
     tie.close
     (tie.spec
     mul-requires

@@ -4,7 +4,7 @@ use Rattle.std.proofs.Common.{rules}
 use Rattle.shape.proofs.elevation.GridRow.line.Statement.{statement}
 use Rattle.shape.proofs.elevation.GridRow.line.Tie as tie
 
-sub_at : tie.Need-overflow-sub-at
+sub_at : tie.Need-overflow_sub-j
 sub_at c = search rules
 
 at-requires : tie.Need-at-requires
@@ -13,13 +13,13 @@ at-requires c κs = search rules
 at-requires-2 : tie.Need-at-requires-2
 at-requires-2 c κs = search rules
 
-add_at : tie.Need-overflow-add-at
+add_at : tie.Need-overflow_add-j
 add_at c = search rules
 
 at-requires-3 : tie.Need-at-requires-3
 at-requires-3 c κs = search rules
 
-add-at-2 : tie.Need-overflow-add-at-2
+add-at-2 : tie.Need-overflow_add-j-2
 add-at-2 c = search rules
 
 at-requires-4 : tie.Need-at-requires-4
@@ -27,12 +27,12 @@ at-requires-4 c κs = search rules
 
 returns : tie.Need-returns
 returns c =
-    let at_at = c.before.before.before in
-    let start = at_at.before.before.before in
-    line_is _ start.args.j start.requires.2 _ _ _ _ at_at.at.ensures c.before.before.at2.ensures c.before.at3.ensures
-    c.at4.ensures
+    let at_at = c in
+    let start = at_at in
+    line_is _ start.args.j start.requires.2 _ _ _ _ at_at.at.ensures c.at-2.ensures c.at-3.ensures
+    c.at-4.ensures
 
-pub line-spec : {M : Type 1} → statement M
-line-spec =
+pub line_spec : {M : Type 1} → statement M
+line_spec =
     tie.close
     (tie.spec sub_at at-requires at-requires-2 add_at at-requires-3 add-at-2 at-requires-4 returns)

@@ -12,7 +12,7 @@ length-requires c κs = search rules
 
 returns : tie.Need-returns
 unfolding distance_of
-returns c = rw (c.length.ensures, c.before.sub.ensures)
+returns c = rw (c.length.ensures, c.sub.ensures)
 
-pub distance-to-spec : {M : Type 1} → statement M
-distance-to-spec = tie.close (tie.spec sub-requires length-requires returns)
+pub distance_to_spec : {M : Type 1} → statement M
+distance_to_spec = tie.close (tie.spec sub-requires length-requires returns)

@@ -8,5 +8,5 @@ returns : tie.Need-returns
 unfolding point_sub_vector
 returns c = refl
 
-pub sub-vector-spec : {M : Type 1} → statement M
-sub-vector-spec = tie.close (tie.spec returns)
+pub sub_vector_spec : {M : Type 1} → statement M
+sub_vector_spec = tie.close (tie.spec returns)

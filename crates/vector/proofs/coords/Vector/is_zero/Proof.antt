@@ -3,17 +3,17 @@ use Rattle.vector.specs.Coords.{is_zero}
 use Rattle.vector.proofs.coords.Vector.is_zero.Statement.{statement}
 use Rattle.vector.proofs.coords.Vector.is_zero.Tie as tie
 
-returns : tie.Need-returns
+returns : tie.Need-returns-then-self-2
 unfolding is_zero
-returns c = rw (c.before.before.before.if1.true, c.before.if2.true)
+returns c = rw (c.if-self.true, c.if-self-2.true)
 
-returns-2 : tie.Need-returns-2
+returns-2 : tie.Need-returns-else-self-2
 unfolding is_zero
-returns-2 c = rw (c.before.before.if1.true, c.if2.false)
+returns-2 c = rw (c.if-self.true, c.if-self-2.false)
 
-returns-3 : tie.Need-returns-3
+returns-3 : tie.Need-returns-else-self
 unfolding is_zero
-returns-3 c = rw c.if1.false
+returns-3 c = rw c.if-self.false
 
-pub is-zero-spec : {M : Type 1} → statement M
-is-zero-spec = tie.close (tie.spec returns returns-2 returns-3)
+pub is_zero_spec : {M : Type 1} → statement M
+is_zero_spec = tie.close (tie.spec returns returns-2 returns-3)

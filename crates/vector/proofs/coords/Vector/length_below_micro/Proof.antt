@@ -4,16 +4,16 @@ use Rattle.vector.specs.Coords.{length_of}
 use Rattle.vector.proofs.coords.Vector.length_below_micro.Statement.{statement}
 use Rattle.vector.proofs.coords.Vector.length_below_micro.Tie as tie
 
-length-squared-requires : tie.Need-length-squared-requires
+length-squared-requires : tie.Need-length_squared-requires
 length-squared-requires c κs = search rules
 
-root-below-micro-requires : tie.Need-root-below-micro-requires
+root-below-micro-requires : tie.Need-root_below_micro-requires
 root-below-micro-requires c κs = search rules
 
 returns : tie.Need-returns
 unfolding length_of
-returns c = rw (c.root-below-micro.ensures, c.before.length-squared.ensures)
+returns c = rw (c.root_below_micro.ensures, c.length_squared.ensures)
 
-pub length-below-micro-spec : {M : Type 1} → statement M
-length-below-micro-spec =
+pub length_below_micro_spec : {M : Type 1} → statement M
+length_below_micro_spec =
     tie.close (tie.spec length-squared-requires root-below-micro-requires returns)

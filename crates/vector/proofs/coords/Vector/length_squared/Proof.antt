@@ -11,5 +11,5 @@ returns : tie.Need-returns
 unfolding length_squared_of
 returns c = c.dot.ensures
 
-pub length-squared-spec : {M : Type 1} → statement M
-length-squared-spec = tie.close (tie.spec dot-requires returns)
+pub length_squared_spec : {M : Type 1} → statement M
+length_squared_spec = tie.close (tie.spec dot-requires returns)

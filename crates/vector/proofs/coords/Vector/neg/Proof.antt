@@ -8,5 +8,5 @@ returns : tie.Need-returns
 unfolding vector_neg
 returns c = refl
 
-pub neg-spec : {M : Type 1} → statement M
-neg-spec = tie.close (tie.spec returns)
+pub neg_spec : {M : Type 1} → statement M
+neg_spec = tie.close (tie.spec returns)

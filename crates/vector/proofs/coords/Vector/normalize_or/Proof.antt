@@ -8,33 +8,33 @@ use Rattle.vector.specs.Laws.{over_root}
 use Rattle.vector.proofs.coords.Vector.normalize_or.Statement.{statement}
 use Rattle.vector.proofs.coords.Vector.normalize_or.Tie as tie
 
-length-squared-requires : tie.Need-length-squared-requires
+length-squared-requires : tie.Need-length_squared-requires
 length-squared-requires c κs = search rules
 
-root-near-one-requires : tie.Need-root-near-one-requires
+root-near-one-requires : tie.Need-root_near_one-near-requires
 root-near-one-requires c κs = search rules
 
 mul-requires : tie.Need-mul-requires
 mul-requires c κs = search rules
 
-returns : tie.Need-returns
+returns : tie.Need-returns-then-near
 unfolding of_bits
 returns c =
-    let at_root_near_one = c.before.before.before in
-    let s = at_root_near_one.before.before in
-    let near = at_root_near_one.root-near-one in
-    let p = near_positive _ near.result.root near.result.is near.ensures.0 near.ensures.1 c.before.before.if1.true in
-    let h = subst (λ (x : Float). PositiveRoot x near.result.root) at_root_near_one.before.length-squared.ensures p in
+    let at_root_near_one = c in
+    let s = at_root_near_one in
+    let near = at_root_near_one.root_near_one-near in
+    let p = near_positive _ near.result.root near.result.is near.ensures.0 near.ensures.1 c.if-near.true in
+    let h = subst (λ (x : Float). PositiveRoot x near.result.root) at_root_near_one.length_squared.ensures p in
     c.mul.ensures ∙ over_root s.args.self s.args.fallback near.result.root h
 
-normalize-any-requires : tie.Need-normalize-any-requires
+normalize-any-requires : tie.Need-normalize_any-requires
 normalize-any-requires c κs = search rules
 
-returns-2 : tie.Need-returns-2
+returns-2 : tie.Need-returns
 returns-2 c = search rules
 
-pub normalize-or-spec : {M : Type 1} → statement M
-normalize-or-spec =
+pub normalize_or_spec : {M : Type 1} → statement M
+normalize_or_spec =
     tie.close
     (tie.spec
     length-squared-requires

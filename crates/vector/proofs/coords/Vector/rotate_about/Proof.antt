@@ -4,24 +4,24 @@ use Rattle.vector.specs.Coords.{rotate_about}
 use Rattle.vector.proofs.coords.Vector.rotate_about.Statement.{statement}
 use Rattle.vector.proofs.coords.Vector.rotate_about.Tie as tie
 
-normalize-or-zero-requires : tie.Need-normalize-or-zero-requires
+normalize-or-zero-requires : tie.Need-normalize_or_zero-k-requires
 normalize-or-zero-requires c κs = search rules
 
-is-zero-requires : tie.Need-is-zero-requires
+is-zero-requires : tie.Need-is_zero-requires
 is-zero-requires c κs = search rules
 
-returns : tie.Need-returns
+returns : tie.Need-returns-then-is_zero
 unfolding rotate_about
-returns c = rw (← c.before.before.normalize-or-zero.ensures, ← c.before.is_zero.ensures, c.if1.true)
+returns c = rw (← c.normalize_or_zero-k.ensures, ← c.is_zero.ensures, c.if-is_zero.true)
 
 turned-requires : tie.Need-turned-requires
 turned-requires c κs = search rules
 
-returns-2 : tie.Need-returns-2
+returns-2 : tie.Need-returns
 unfolding rotate_about
-returns-2 c = rw (← c.before.before.before.normalize-or-zero.ensures, ← c.before.before.is_zero.ensures, c.before.if1.false) c.turned.ensures
+returns-2 c = rw (← c.normalize_or_zero-k.ensures, ← c.is_zero.ensures, c.if-is_zero.false) c.turned.ensures
 
-pub rotate-about-spec : {M : Type 1} → statement M
-rotate-about-spec =
+pub rotate_about_spec : {M : Type 1} → statement M
+rotate_about_spec =
     tie.close
     (tie.spec normalize-or-zero-requires is-zero-requires returns turned-requires returns-2)
