@@ -1,6 +1,5 @@
 -- `shape::elevation::height_in` meets its contract, by the tests in turn. Assumes nothing.
 use Rattle.std.proofs.Common.{sym, ◌∙◌, arith, rules, eq-eqb, ne_eqb}
-use borrow.Author.Tests.{not-true, not-false}
 use Rattle.shape.specs.Elevation.{value_of}
 use Rattle.shape.proofs.Heights.{count_whole}
 use Rattle.shape.proofs.Squares.{spacing_nan, spacing_low, no_rows, some_rows, off_rows, off_columns, on_both, on_grid_is, row_near, column_near}
@@ -55,7 +54,7 @@ returns-4 c =
     let at_if3 = at_snap2 in
     let start = at_if3 in
     off_rows start.args.rows.now start.args.left.now start.args.right.now _ _
-    (sym c.is_within.ensures ∙ not-true c.is_within.result c.if-not-is_within.true)
+    (sym c.is_within.ensures ∙ c.if-not-is_within.true)
     ∙ some_rows start.args.grid start.args.rows.now start.args.left.now start.args.right.now start.args.s
     start.args.t (ne_eqb _ _ at_if3.if-m-eq0.false) at_if3.if-spacing.false at_if3.if-spacing-2.false
     at_snap2.snap-u.ensures at_snap2.snap-v.ensures
@@ -70,8 +69,8 @@ returns-5 c =
     let at_if3 = at_snap2 in
     let start = at_if3 in
     off_columns start.args.rows.now start.args.left.now start.args.right.now _ _ start.args.most start.requires.widest
-    (sym at_is_within.is_within.ensures ∙ not-false at_is_within.is_within.result c.if-not-is_within.false)
-    (sym c.is_within-2.ensures ∙ not-true c.is_within-2.result c.if-not-is_within-2.true)
+    (sym at_is_within.is_within.ensures ∙ c.if-not-is_within.false)
+    (sym c.is_within-2.ensures ∙ c.if-not-is_within-2.true)
     ∙ some_rows start.args.grid start.args.rows.now start.args.left.now start.args.right.now start.args.s
     start.args.t (ne_eqb _ _ at_if3.if-m-eq0.false) at_if3.if-spacing.false at_if3.if-spacing-2.false
     at_snap2.snap-u.ensures at_snap2.snap-v.ensures
@@ -82,14 +81,14 @@ place-of-requires c κs =
     let at_snap = at_is_within in
     let start = at_snap in
     row_near _ _ (omega (arith, start.requires.few))
-    (sym at_is_within.is_within.ensures ∙ not-false at_is_within.is_within.result c.if-not-is_within.false)
+    (sym at_is_within.is_within.ensures ∙ c.if-not-is_within.false)
 
 place-of-requires-2 : tie.Need-place_of-requires-2
 place-of-requires-2 c κs =
     let at_snap = c in
     let start = at_snap in
     column_near _ _ start.requires.narrow
-    (sym c.is_within-2.ensures ∙ not-false c.is_within-2.result c.if-not-is_within-2.false)
+    (sym c.is_within-2.ensures ∙ c.if-not-is_within-2.false)
 
 on-grid-requires : tie.Need-on_grid-requires
 on-grid-requires c κs = (c.place_of.ensures.low, c.place_of.ensures.high, c.place_of-2.ensures.low, c.place_of-2.ensures.high)
@@ -106,8 +105,8 @@ returns-6 c =
     ∙ on_grid_is (value_of start.args.rows.now start.args.left.now start.args.right.now) _ _ _ _
     c.place_of.ensures c.place_of-2.ensures
     ∙ on_both start.args.rows.now start.args.left.now start.args.right.now _ _ start.args.most start.requires.widest
-    (sym at_is_within.is_within.ensures ∙ not-false at_is_within.is_within.result at_is_within2.if-not-is_within.false)
-    (sym at_is_within2.is_within-2.ensures ∙ not-false at_is_within2.is_within-2.result at_if5.if-not-is_within-2.false)
+    (sym at_is_within.is_within.ensures ∙ at_is_within2.if-not-is_within.false)
+    (sym at_is_within2.is_within-2.ensures ∙ at_if5.if-not-is_within-2.false)
     ∙ some_rows start.args.grid start.args.rows.now start.args.left.now start.args.right.now start.args.s
     start.args.t (ne_eqb _ _ at_if3.if-m-eq0.false) at_if3.if-spacing.false at_if3.if-spacing-2.false
     at_snap2.snap-u.ensures at_snap2.snap-v.ensures

@@ -69,11 +69,8 @@ wide-requires-4 c κs = search rules
 abbrev Read : Type 0
 Read = tie.After-wide-d invariant-loop decreases-loop
 
-below : (r : Read) →
-    let at_loop = r.before.before.before.before.before.before.before.before.before in
-    let start = at_loop.before.before in
-    at_loop.loop.i < length start.args.spans.now / 5
-below r = omega (arith, r.before.before.before.before.before.before.before.before)
+below : (r : Read) → r.loop-i.i < length r.args.spans.now / 5
+below r = omega arith
 
 returns : tie.Need-returns-then-a-vertex invariant-loop decreases-loop
 unfolding word_of
@@ -125,26 +122,18 @@ add-i : tie.Need-overflow_add-i invariant-loop decreases-loop
 add-i c = search rules
 
 loop-less : tie.Need-loop-i-smaller invariant-loop decreases-loop
-loop-less c =
-    let at_wide3 = c in
-    let at_loop_test = at_wide3.before.before.before.before.before.before.before.before.before.before.before.before in
-    omega (arith, at_loop_test)
+loop-less c = omega arith
 
 loop-again : tie.Need-loop-i-preserved invariant-loop decreases-loop
 unfolding word_of
 loop-again c =
-    let at_if1 = c in
-    let r = at_if1 in
-    let at_wide2 = r in
-    let at_loop_test = at_wide2.before.before.before.before.before.before.before.before.before.before.before.before in
-    let start = at_loop_test in
-    let ss = start.args.spans.now in
-    let l = at_loop_test.loop-i in
-    let v = turn ss 1 l.i at_wide2.wide-a.ensures at_wide2.wide-b.ensures l.invariant.1 at_if1.if-a-vertex.false
+    let ss = c.args.spans.now in
+    let l = c.loop-i in
+    let v = turn ss 1 l.i c.wide-a.ensures c.wide-b.ensures l.invariant.1 c.if-a-vertex.false
     c.if-b-a.false l.invariant.3 in
     let w =
-    turn ss 3 l.i r.wide-c.ensures r.wide-d.ensures l.invariant.2 c.if-c-index.false c.if-d-c.false l.invariant.4 in
-    (omega (arith, at_loop_test), v.0, w.0, v.1, w.1)
+    turn ss 3 l.i c.wide-c.ensures c.wide-d.ensures l.invariant.2 c.if-c-index.false c.if-d-c.false l.invariant.4 in
+    (omega arith, v.0, w.0, v.1, w.1)
 
 returns-5 : tie.Need-returns-then-n-vertex invariant-loop decreases-loop
 returns-5 c =

@@ -95,7 +95,7 @@ loop-again c =
     let did = c.weld_step-h in
     record {
       holds = rw (welded_next ps at.i)
-          (next ps start.args.kept.now at.kept did.new.1.0 at.h did.result (welded ps at.i) (at.i + 1) at.invariant.holds
+          (next ps start.args.kept.now at.kept did.new.kept at.h did.result (welded ps at.i) (at.i + 1) at.invariant.holds
           did.ensures.0.0 did.ensures.0.1 did.ensures.1);
       few = omega (arith, did.ensures.1.ends, cond_few k at.h.last, at.invariant.few);
       old = rw did.ensures.0.0 (cond_le k (at.i + 1) at.h.last (at.i + 1) (omega arith) (omega (arith, at.invariant.old)));
@@ -124,7 +124,7 @@ returns-2 c =
     let did = c.weld_end in
     let here : length ps / 3 - 1 ≡ at.i = omega (arith, at.invariant.more) in
     let all : length ps / 3 ≡ suc at.i = omega (arith, at.invariant.more) in (
-      rw all (finish ps start.args.kept.now at.kept did.new.1.0 at.h at.i at.invariant.holds did.result
+      rw all (finish ps start.args.kept.now at.kept did.new.kept at.h at.i at.invariant.holds did.result
           (rw here at did.ensures.0)),
       did.ensures.1,
     )
