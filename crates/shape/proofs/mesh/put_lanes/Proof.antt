@@ -78,7 +78,7 @@ loop-again c =
     let at = at_loop_test.loop-k in (
       next_written g at.k at.at at.invariant.0 at_put_lane.put_lane-at.result at_put_lane.put_lane-at.ensures,
       omega (arith, at_loop_test.loop-k-test.true),
-      omega (arith, at_put_lane.put_lane-at.kept, at.invariant.2),
+      omega (arith, at_put_lane.put_lane-at.auto.kept, at.invariant.2),
     )
 
 same_length : tie.Need-shape_of-vertices invariant-loop decreases-loop

@@ -61,7 +61,7 @@ loop-again c =
     let n = c.size_lane-at.ensures in
     record {
       sizes = next_sizes g at_loop.loop-k.k at_loop.loop-k.at c.size_lane-at.result i.sizes n;
-      room = omega (arith, c.size_lane-at.kept, i.room);
+      room = omega (arith, c.size_lane-at.auto.kept, i.room);
       floats = omega (arith, i.floats, n.few_floats);
       index = omega (arith, i.index, n.few_index);
       word = omega (arith, i.word, n.few_words);
