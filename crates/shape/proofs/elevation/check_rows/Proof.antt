@@ -1,6 +1,5 @@
 -- `shape::elevation::check_rows` meets its contract: so far every row was in order, or the pass stops. Assumes nothing.
 use Rattle.std.proofs.Common.{◌≡◌, ◌-◌, ◌≤◌, arith, rules}
-use borrow.Author.Tests.{not-true, not-false}
 use Rattle.shape.specs.Elevation.{row_count}
 use Rattle.shape.proofs.Surveys.{Seen, seen_start, seen_next, odd_left, odd_right, seen_all, seen_odd}
 use Rattle.shape.proofs.elevation.check_rows.Statement.{statement}

@@ -1,5 +1,4 @@
 -- `shape::rib::spread_at` meets its contract: at a mild corner nothing is pinched. Assumes nothing.
-use borrow.Author.Tests.{not-true, not-false}
 use Rattle.shape.specs.Strip.{spread_of}
 use Rattle.shape.proofs.Corners.{mild_full}
 use Rattle.std.proofs.Common.{rules}
