@@ -1,5 +1,7 @@
 // The operations of IEEE 754-2019 that the language lacks, worked out from the bits of the number.
 // Every function takes every float: no contract asks anything of its caller.
+#![tactic(auto)]
+
 pub mod bits;
 pub mod compare;
 pub mod count;

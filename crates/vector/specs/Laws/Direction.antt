@@ -8,7 +8,7 @@ use Rattle.std.proofs.Math.Logic.{inl, inr}
 use Prim.Native.Nat.{ℕ, zero, suc, ◌+◌, ◌*◌, ◌^◌, ◌≤◌, ◌<◌}
 use Rattle.std.proofs.Math.Bool.{false}
 use Rattle.std.specs.Float.{nan, inf, fin, Format}
-use Rattle.std.specs.Float.Ieee.{binary32, low, up, down, round, add, mul, div, neg, lt, le, fits, of_bits}
+use Rattle.std.specs.Float.Ieee.{binary32, up, down, round, add, mul, div, neg, lt, le, fits, of_bits}
 use Rattle.std.specs.Float.Ieee.Fits.{and_l, and_r, up_pos, add-fits, mul-fits}
 use Rattle.std.specs.Float.Ieee.Positive.{positive, positive-finite, first_pos, above_of_le}
 use Rattle.std.specs.Float.Ieee.Scale.{finite}

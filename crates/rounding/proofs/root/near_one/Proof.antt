@@ -1,5 +1,5 @@
 -- `rounding::root::near_one` meets its contract. Assumes nothing.
-use Rattle.std.proofs.Common.{◌+◌, ◌/◌, ◌≤◌, arith, lit≤, rules}
+use Rattle.std.proofs.Common.{◌+◌, ◌/◌, arith, lit≤, rules}
 use lib.Ieee.{binary32}
 use Rattle.rounding.proofs.Fields.{result_no_nan}
 use Rattle.rounding.proofs.RootTrial.{near}

@@ -1,5 +1,5 @@
 -- `rounding::width::nearest_even` meets its contract. Assumes nothing.
-use Rattle.std.proofs.Common.{◌≡◌, ℕ, suc, ◌+◌, ◌-◌, ◌*◌, ◌/◌, ◌%◌, ◌^◌, ◌<◌, ◌≤◌, sym, ap, ◌∙◌, subst, one-mul, arith, lit<, pow_pos, pow_mono, shl_exact, rules}
+use Rattle.std.proofs.Common.{◌≡◌, ℕ, suc, ◌+◌, ◌-◌, ◌*◌, ◌/◌, ◌%◌, ◌^◌, ◌≤◌, sym, ap, ◌∙◌, subst, one-mul, arith, lit<, pow_pos, pow_mono, shl_exact, rules}
 use native.Mathlib.Nat.{pow-succ'}
 use lib.Bits.{and_mask}
 use lib.Ieee.Nearest.{closest}
