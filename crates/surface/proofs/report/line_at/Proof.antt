@@ -106,7 +106,7 @@ returns-2 c =
     let s = at_if in
     tells_found s.requires.0 s.requires.1.0 at_if.if-records-at-eq0.false at_height.from_bits32-height.ensures at_x.from_bits32.ensures
     at_y.from_bits32-2.ensures at_z.from_bits32-3.ensures (at_wide.wide-triangle.ensures, small at_wide)
-    (c.wide-lane.ensures ∙ c.lane_of.ensures, omega (arith, c.wide-lane.ensures, c.lane_of.type-inv))
+    (c.wide-lane.ensures ∙ c.lane_of.ensures, omega (arith, c.wide-lane.ensures, c.lane_of.type_inv))
 
 pub line_at_spec : {M : Type 1} → statement M
 line_at_spec =
