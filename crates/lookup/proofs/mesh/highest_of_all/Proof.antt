@@ -1,6 +1,5 @@
 -- `lookup::mesh::highest_of_all` meets its contract. The loop's invariant: `best` is the best of the first t triangles. Assumes nothing.
 use Rattle.std.proofs.Common.{◌≡◌, ◌-◌, ◌/◌, ◌≤◌, length, sym, refl, ◌∙◌, arith, rules}
-use borrow.Author.Tests.{not-true, not-false}
 use Rattle.lookup.specs.Plain.{scan_of}
 use Rattle.lookup.proofs.Turns.{passed_missing, passed_outside, taken_inside}
 use Rattle.lookup.proofs.mesh.highest_of_all.Statement.{statement}
@@ -76,7 +75,7 @@ loop-again-3 c =
       omega (arith, at_loop_test),
       passed_outside _ _ _ _ _ _ refl _ at_loop_test.loop-t.invariant.1
           (sym at_a.in-Corners.is ∙ at_a.corners.ensures)
-          (rw (← c.weigh-w.ensures) (sym c.inside.ensures ∙ not-true _ c.if-not-inside.true)),
+          (rw (← c.weigh-w.ensures) (sym c.inside.ensures ∙ c.if-not-inside.true)),
     )
 
 height-requires : tie.Need-height-requires invariant-loop decreases-loop
@@ -107,7 +106,7 @@ loop-again-4 c =
       c.higher-best.ensures
           ∙ rw (c.height.ensures, at_weigh.weigh-w.ensures) (taken_inside _ _ _ _ _ _ refl _ at_loop_test.loop-t.invariant.1
           (sym at_a.in-Corners.is ∙ at_a.corners.ensures)
-          (rw (← at_weigh.weigh-w.ensures) (sym at_inside.inside.ensures ∙ not-false _ c.if-not-inside.false))),
+          (rw (← at_weigh.weigh-w.ensures) (sym at_inside.inside.ensures ∙ c.if-not-inside.false))),
     )
 
 returns : tie.Need-returns invariant-loop decreases-loop

@@ -1,6 +1,5 @@
 -- `lookup::mesh::low_turns` meets its contract. The loop's invariant: `peak` is the peak of the run up to place from + k. Assumes nothing.
 use Rattle.std.proofs.Common.{◌≡◌, ℕ, suc, ◌+◌, ◌-◌, ◌≤◌, sym, ◌∙◌, add-zero, arith, rules}
-use borrow.Author.Tests.{not-true, not-false}
 use Rattle.lookup.specs.Plain.{scan_of, entry_of}
 use Rattle.lookup.specs.Sixteen.{PeakWeighed}
 use Rattle.lookup.proofs.Turns.{passed_missing, passed_outside, taken_inside}
@@ -115,7 +114,7 @@ loop-again-3 c =
       omega (arith, at_loop_test),
       rw (next start.args.from l.k)
           (passed_outside _ _ _ _ _ _ at_corners.wide-t.ensures _ l.invariant.1 (sym at_a.in-Corners.is ∙ at_corners.corners.ensures)
-          (rw (← c.weigh-w.ensures) (sym c.inside.ensures ∙ not-true _ c.if-not-inside.true))),
+          (rw (← c.weigh-w.ensures) (sym c.inside.ensures ∙ c.if-not-inside.true))),
       l.invariant.2,
     )
 
@@ -153,7 +152,7 @@ loop-again-4 c =
       c.higher-peak.ensures.0
           ∙ rw (next start.args.from l.k, c.height.ensures, at_weigh.weigh-w.ensures)
           (taken_inside _ _ _ _ _ _ at_corners.wide-t.ensures _ l.invariant.1 f
-          (rw (← at_weigh.weigh-w.ensures) (sym at_inside.inside.ensures ∙ not-false _ c.if-not-inside.false))),
+          (rw (← at_weigh.weigh-w.ensures) (sym at_inside.inside.ensures ∙ c.if-not-inside.false))),
       weighed_next _ _ _ _ l.invariant.2 (weighs _ _ _ _ f at_weigh.weigh-w.ensures) c.higher-peak.ensures.1,
     )
 

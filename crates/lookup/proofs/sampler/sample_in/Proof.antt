@@ -59,7 +59,7 @@ enum-told-2 c = search rules
 
 answer-of-requires : tie.Need-answer_of-requires
 answer-of-requires c κs =
-    let at_highest = c.before.before in
+    let at_highest = c.before.before.before in
     let s = L (H at_highest) in
     let o = ordered (M s) _ s.args.x s.args.y s.requires.0 in
     let h = at_highest.highest-hit.ensures in
@@ -76,7 +76,7 @@ returns-3 c = let s = L c.before in nothing (M s) _ _ _ s.requires.0 (nowhere_is
 returns-4 : tie.Need-returns-in_default
 returns-4 c =
     let at_run_check = c in
-    let at_highest = at_run_check.before.before.before in
+    let at_highest = at_run_check.before.before.before.before in
     let at_from = at_highest in
     let l = H at_highest in
     let s = L l in
