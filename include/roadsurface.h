@@ -1,5 +1,5 @@
 /* The road-surface library: roads and junctions made into triangles, and the height and tilt of the
- * road under a wheel. Link with libroadsurface.a (built by `rt staticlib roadsurface`). What each
+ * road under a wheel. Link with libroadsurface.a (built by `rt lib` in crates/roadsurface). What each
  * function answers and what it leaves in the memory it is lent is proved; the contracts stand in
  * crates/roadsurface/src/lib.rt, and this page says them in plain words.
  *

@@ -1,4 +1,4 @@
-//! The road-surface library for Rust: safe calls of libroadsurface.a (built by `rt staticlib roadsurface`).
+//! The road-surface library for Rust: safe calls of libroadsurface.a (built by `rt lib` in crates/roadsurface).
 //! A call gives what include/roadsurface.h says, or the refusal; a refused call has written nothing. Lists are slices
 //! of elements: floats, doubles, words and bytes, so coordinates are in threes and asked points in twos.
 #![allow(dead_code)]
