@@ -5,7 +5,6 @@ use shape::elevation::{
     Across, Elevation, ElevationGrid, Line, Patch, Spot, coefficients, height, height_at,
     row_slopes,
 };
-use std::num::wrapping_add_usize;
 use stored::lent::{front, front_doubles, list_at, number, put_number, take_doubles, take_words};
 use stored::numbers::{double, put_wide};
 use stored::stream::{put, word};
@@ -43,12 +42,9 @@ fn put_bits(made: &mut [u32], at: usize, b: u64) -> usize {
 
 pub fn patch_case(given: &[u32], made: &mut [u32]) -> usize {
     let p = coefficients(square(given));
-    let m = p.m;
     let mut at: usize = 0;
-    let mut i: usize = 0;
-    while i < 16 {
-        at = put_bits(made, at, bits64(m[i]));
-        i += 1;
+    for x in p.m {
+        at = put_bits(made, at, bits64(x));
     }
     at
 }
@@ -91,16 +87,16 @@ pub fn slopes_case(given: &[u32], made: &mut [u32]) -> usize {
 pub fn grid_at(given: &[u32], i: usize) -> ElevationGrid {
     ElevationGrid {
         origin_x: double_at(given, i),
-        origin_y: double_at(given, wrapping_add_usize(i, 2)),
-        sin: double_at(given, wrapping_add_usize(i, 4)),
-        cos: double_at(given, wrapping_add_usize(i, 6)),
-        start: double_at(given, wrapping_add_usize(i, 8)),
-        spacing: double_at(given, wrapping_add_usize(i, 10)),
+        origin_y: double_at(given, i.wrapping_add(2)),
+        sin: double_at(given, i.wrapping_add(4)),
+        cos: double_at(given, i.wrapping_add(6)),
+        start: double_at(given, i.wrapping_add(8)),
+        spacing: double_at(given, i.wrapping_add(10)),
     }
 }
 
 fn double_at(given: &[u32], i: usize) -> f64 {
-    from_bits64(word(given, i), word(given, wrapping_add_usize(i, 1)))
+    from_bits64(word(given, i), word(given, i.wrapping_add(1)))
 }
 
 // An answer of four words: 0, then 1 and a height or three times 0; or a refusal's number and place,
@@ -155,12 +151,10 @@ fn heights(
 ) -> usize {
     let n = questions.len() / 2;
     let mut at = put_number(made, 0, n);
-    let mut i: usize = 0;
-    while i < n {
+    for i in 0..n {
         let x = questions[2 * i];
         let y = questions[2 * i + 1];
         at = put_elevation(made, at, asked(op, grid, rows, left, right, x, y));
-        i += 1;
     }
     at
 }

@@ -4,7 +4,6 @@ use crate::refused::put_refusal;
 use shape::ears::{EarAnswer, ear_clip};
 use shape::junction::{JunctionAnswer, JunctionGrid, mesh};
 use shape::lists::part;
-use std::num::wrapping_add_usize;
 use stored::lent::{
     BLANK, BLANK_WORD, front, front_doubles, list_at, number, put_number, put_singles, put_words,
     take_doubles, take_singles, take_words,
@@ -95,8 +94,8 @@ fn ground(
     let mut normals = [BLANK; 12300];
     let mut indices = [BLANK_WORD; 4100];
     let v = number(given, at);
-    let n = number(given, wrapping_add_usize(at, 1));
-    let i = number(given, wrapping_add_usize(at, 2));
+    let n = number(given, at.wrapping_add(1));
+    let i = number(given, at.wrapping_add(2));
     if v > 12300 {
         return 0;
     }

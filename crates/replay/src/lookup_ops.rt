@@ -12,7 +12,6 @@ use lookup::sampler::{Sampled, top};
 use rounding::bits::bits32;
 use shape::lists::part;
 use shape::refusal::Refusal;
-use std::num::wrapping_add_usize;
 use stored::lent::{
     BLANK_WORD, front, list_at, number, put_number, put_words, take_singles, take_words,
 };
@@ -21,16 +20,14 @@ use vector::coords::Vector;
 
 fn put_single(made: &mut [u32], at: usize, x: f32) -> usize {
     put(made, at, bits32(x));
-    wrapping_add_usize(at, 1)
+    at.wrapping_add(1)
 }
 
 fn put_zeros(made: &mut [u32], at: usize, n: usize) -> usize {
-    let mut i: usize = 0;
-    while i < n {
-        put(made, wrapping_add_usize(at, i), 0);
-        i += 1;
+    for i in 0..n {
+        put(made, at.wrapping_add(i), 0);
     }
-    wrapping_add_usize(at, n)
+    at.wrapping_add(n)
 }
 
 // ---- one answer
@@ -99,13 +96,11 @@ fn plain_answers(
 ) -> usize {
     let n = points.len() / 2;
     let mut at = put_number(made, 0, n);
-    let mut i: usize = 0;
-    while i < n {
+    for i in 0..n {
         let x = points[2 * i];
         let y = points[2 * i + 1];
         let a = height_at(vertices, normals, indices, spans, x, y);
         at = put_answer(made, at, a);
-        i += 1;
     }
     at
 }
@@ -121,13 +116,11 @@ fn samples(
 ) -> usize {
     let n = points.len() / 2;
     let mut at = put_number(made, 0, n);
-    let mut i: usize = 0;
-    while i < n {
+    for i in 0..n {
         let x = points[2 * i];
         let y = points[2 * i + 1];
         let a = top(vertices, normals, indices, spans, index, x, y);
         at = put_sample(made, at, a);
-        i += 1;
     }
     at
 }

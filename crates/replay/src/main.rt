@@ -2,6 +2,8 @@
 // from standard input, in 32-bit words, the low byte first: blocks of an operation's number, the number
 // of its cases, and for each case the count of its input words, these, the count of its answer words,
 // and these. A line for each block says how many cases differ, and the last line for all.
+#![tactic(auto)]
+
 mod grid_ops;
 mod junction_ops;
 mod lookup_ops;
@@ -17,6 +19,8 @@ ghost use Rattle.std.specs.Prelude.{◌≡◌, ℕ, ◌<◌, true};
 ghost use Rattle.stored.specs.Words.{get_word};
 
 use names::name;
+use std::io;
+use std::io::Read;
 use stored::rounding_ops::may_panic;
 use stored::stream::{Cursor, list, next, start, word};
 use stored::text::{Tally, block_line, both, last_line, nothing};
@@ -24,7 +28,7 @@ use stored::{rounding_ops, vector_ops};
 
 // How a case came out. The list goes on unless it is broken: it breaks off, or the case has more words
 // than there is room for.
-#[derive(Drop)]
+#[derive(Clone, Copy)]
 enum Verdict {
     Same,
     Differs,
@@ -32,7 +36,7 @@ enum Verdict {
     Broken,
 }
 
-#[derive(Drop)]
+#[derive(Clone, Copy)]
 struct Worked {
     verdict: Verdict,
     place: Cursor,
@@ -40,7 +44,7 @@ struct Worked {
 
 // What is known after some cases: whether the list is broken there, their tally, how many stand before
 // the first that differs, and where the reading stands.
-#[derive(Drop)]
+#[derive(Clone, Copy)]
 struct Run {
     broken: bool,
     tally: Tally,
@@ -49,7 +53,7 @@ struct Run {
 }
 
 // What is known after some blocks.
-#[derive(Drop)]
+#[derive(Clone, Copy)]
 struct Progress {
     more: bool,
     broken: bool,
@@ -61,12 +65,10 @@ struct Progress {
 fn same(a: &[u32], b: &[u32], n: usize) -> bool
     ensures { result ≡ true → (k : ℕ) → k < n → get_word a.now k ≡ get_word b.now k }
 {
-    let mut i: usize = 0;
-    while i < n {
+    for i in 0..n {
         if word(a, i) != word(b, i) {
             return false;
         }
-        i += 1;
     }
     true
 }
@@ -120,31 +122,32 @@ fn answer(
 
 fn case(
     op: u32,
+    input: &mut impl Read,
     bytes: &mut [u8],
     given: &mut [u32],
     wanted: &mut [u32],
     made: &mut [u32],
     from: Cursor,
 ) -> Worked {
-    let input = list(bytes, given, from);
-    let place = input.place;
-    if !input.whole {
+    let question = list(input, bytes, given, from);
+    let place = question.place;
+    if !question.whole {
         return Worked {
             verdict: Verdict::Broken,
-            place: place,
+            place,
         };
     }
-    let output = list(bytes, wanted, place);
-    let after = output.place;
-    if !output.whole {
+    let expected = list(input, bytes, wanted, place);
+    let after = expected.place;
+    if !expected.whole {
         return Worked {
             verdict: Verdict::Broken,
             place: after,
         };
     }
-    let verdict = answer(op, given, input.count, made, wanted, output.count);
+    let verdict = answer(op, given, question.count, made, wanted, expected.count);
     Worked {
-        verdict: verdict,
+        verdict,
         place: after,
     }
 }
@@ -190,6 +193,7 @@ fn is_broken(verdict: Verdict) -> bool {
 // One case more in a run.
 fn turn(
     op: u32,
+    input: &mut impl Read,
     bytes: &mut [u8],
     given: &mut [u32],
     wanted: &mut [u32],
@@ -198,7 +202,7 @@ fn turn(
 ) -> Run {
     let from = run.place;
     let before = run.tally;
-    let worked = case(op, bytes, given, wanted, made, from);
+    let worked = case(op, input, bytes, given, wanted, made, from);
     let place = worked.place;
     let verdict = worked.verdict;
     let tally = counted(before, verdict);
@@ -209,9 +213,9 @@ fn turn(
     };
     Run {
         broken: is_broken(verdict),
-        tally: tally,
-        first: first,
-        place: place,
+        tally,
+        first,
+        place,
     }
 }
 
@@ -219,6 +223,7 @@ fn turn(
 fn cases(
     op: u32,
     n: u32,
+    input: &mut impl Read,
     bytes: &mut [u8],
     given: &mut [u32],
     wanted: &mut [u32],
@@ -231,103 +236,121 @@ fn cases(
         first: 0,
         place: from,
     };
-    let mut i: u32 = 0;
-    while i < n {
-        run = turn(op, bytes, given, wanted, made, run);
+    for _ in 0..n {
+        run = turn(op, input, bytes, given, wanted, made, run);
         if run.broken {
-            return run;
+            break;
         }
-        i += 1;
     }
     run
 }
 
 // The line of a block, and its tally added to that of the blocks before it.
-fn added(op: u32, run: Run, all: Tally) -> Progress {
+fn added(out: &impl Print, op: u32, run: Run, all: Tally) -> io::Result<Progress> {
     let tally = run.tally;
     let place = run.place;
-    name(op);
-    block_line(tally, run.first);
-    Progress {
+    name(out, op)?;
+    block_line(out, tally, run.first)?;
+    Ok(Progress {
         more: !run.broken,
         broken: run.broken,
         tally: both(all, tally),
-        place: place,
-    }
+        place,
+    })
 }
 
 // The block of the operation `op`, whose number is read.
 fn block(
+    out: &impl Print,
     op: u32,
+    input: &mut impl Read,
     bytes: &mut [u8],
     given: &mut [u32],
     wanted: &mut [u32],
     made: &mut [u32],
     from: Cursor,
     all: Tally,
-) -> Progress {
-    let size = next(bytes, from);
+) -> io::Result<Progress> {
+    let size = next(input, bytes, from);
     let place = size.place;
     if !size.found {
-        return Progress {
+        return Ok(Progress {
             more: false,
             broken: true,
             tally: all,
-            place: place,
-        };
+            place,
+        });
     }
-    let run = cases(op, size.word, bytes, given, wanted, made, place);
-    added(op, run, all)
+    let run = cases(op, size.word, input, bytes, given, wanted, made, place);
+    added(out, op, run, all)
 }
 
 // One block more, if there is one. A list ends well between two blocks, with no bytes left over.
 fn advance(
+    out: &impl Print,
+    input: &mut impl Read,
     bytes: &mut [u8],
     given: &mut [u32],
     wanted: &mut [u32],
     made: &mut [u32],
     from: Cursor,
     all: Tally,
-) -> Progress {
-    let head = next(bytes, from);
+) -> io::Result<Progress> {
+    let head = next(input, bytes, from);
     let place = head.place;
     if !head.found {
-        return Progress {
+        return Ok(Progress {
             more: false,
             broken: place.spare > 0,
             tally: all,
-            place: place,
-        };
+            place,
+        });
     }
-    block(head.word, bytes, given, wanted, made, place, all)
+    block(
+        out, head.word, input, bytes, given, wanted, made, place, all,
+    )
 }
 
 // Block after block. A proved loop has to end, and nothing says that the input does, so the turns are
-// counted down from a number that no run uses up.
-fn replay(bytes: &mut [u8], given: &mut [u32], wanted: &mut [u32], made: &mut [u32]) -> Progress {
+// counted, up to a number that no run comes to.
+fn replay(
+    out: &impl Print,
+    input: &mut impl Read,
+    bytes: &mut [u8],
+    given: &mut [u32],
+    wanted: &mut [u32],
+    made: &mut [u32],
+) -> io::Result<Progress> {
     let mut step = Progress {
         more: true,
         broken: false,
         tally: nothing(),
         place: start(),
     };
-    let mut turns = u64::MAX;
-    while turns > 0 {
-        step = advance(bytes, given, wanted, made, step.place, step.tally);
+    for _ in 0..u64::MAX {
+        step = advance(
+            out, input, bytes, given, wanted, made, step.place, step.tally,
+        )?;
         if !step.more {
-            return step;
+            break;
         }
-        turns -= 1;
     }
-    step
+    Ok(step)
 }
 
-fn main() {
-    let mut bytes = io::large_buffer();
+fn main(rt: HostRuntime) -> io::Result<()> {
+    let mut input = rt.stdin();
+    let mut bytes = [0u8; 65536];
     let mut given = [0u32; 32768];
     let mut wanted = [0u32; 32768];
     let mut made = [0u32; 32768];
-    let end = replay(&mut bytes, &mut given, &mut wanted, &mut made);
-    let place = end.place;
-    last_line(end.tally, end.broken, place.read);
+    let end = replay(
+        &rt,
+        &mut input,
+        &mut bytes,
+        &mut given,
+        &mut wanted,
+        &mut made,
+    )?;
+    last_line(&rt, end.tally, end.broken, end.place.read)
 }

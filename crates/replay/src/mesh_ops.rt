@@ -3,7 +3,6 @@ use crate::refused::put_refusal;
 use shape::lists::part;
 use shape::mesh::{MeshAnswer, surface_mesh};
 use shape::strip::no_area;
-use std::num::wrapping_add_usize;
 use stored::lent::{
     BLANK, BLANK_WORD, front, list_at, number, put_number, put_singles, put_words, take_singles,
     take_words,
@@ -69,9 +68,9 @@ fn strips(
     let mut indices = [BLANK_WORD; 12300];
     let mut spans = [BLANK_WORD; 5200];
     let v = number(given, at);
-    let n = number(given, wrapping_add_usize(at, 1));
-    let i = number(given, wrapping_add_usize(at, 2));
-    let s = number(given, wrapping_add_usize(at, 3));
+    let n = number(given, at.wrapping_add(1));
+    let i = number(given, at.wrapping_add(2));
+    let s = number(given, at.wrapping_add(3));
     if v > 12300 {
         return 0;
     }

@@ -1,41 +1,46 @@
 // The names of the operations, each where the operation's number says.
-use libc::STDOUT_FILENO;
+use std::io;
 use stored::names::word_of;
 
 // The operations of the shape layer that the oracle has.
-fn shape_name(k: u32) {
+fn shape_name(out: &impl Print, k: u32) -> io::Result<()> {
     if k < 6 {
-        word_of(
+        return word_of(
+            out,
             b"no_area patch slopes elevation_height elevation_height_at signed_area",
             k,
         );
-        return;
     }
-    word_of(b"ring ear_clip junction_mesh surface_mesh validate", k - 6);
+    word_of(
+        out,
+        b"ring ear_clip junction_mesh surface_mesh validate",
+        k - 6,
+    )
 }
 
 // The operations of the lookup layer that the oracle has, and of the surface file; then all points asked
 // in one call, and the case whose stored answer is wrong on purpose.
-fn lookup_name(k: u32) {
+fn lookup_name(out: &impl Print, k: u32) -> io::Result<()> {
     word_of(
+        out,
         b"height_at sampler indexed lookup_words probes tops tops_words planted",
         k,
-    );
+    )
 }
 
 // Writes the name of an operation of any layer.
-pub fn name(op: u32) {
+pub fn name(out: &impl Print, op: u32) -> io::Result<()> {
     match op {
-        27..=37 => shape_name(op - 27),
-        38..=45 => lookup_name(op - 38),
+        27..=37 => shape_name(out, op - 27),
+        38..=45 => lookup_name(out, op - 38),
         327..=337 => {
-            shape_name(op - 327);
-            io::write_all(STDOUT_FILENO, b" at its limits");
+            shape_name(out, op - 327)?;
+            print!(out; " at its limits")
         }
         338..=344 => {
-            lookup_name(op - 338);
-            io::write_all(STDOUT_FILENO, b" at its limits");
+            lookup_name(out, op - 338)?;
+            print!(out; " at its limits")
         }
-        _ => stored::names::name(op),
+        _ => stored::names::name(out, op),
     }
 }

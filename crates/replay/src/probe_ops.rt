@@ -1,6 +1,5 @@
 // The text that a surface file gives. A case is how many bytes the file has, and these in words, the low
 // byte first, filled up with 0. The answer has the text in the same form.
-use std::num::wrapping_add_usize;
 use stored::lent::{number, put_number};
 use stored::stream::{put, word, word_at};
 use surface::file::Copied;
@@ -19,11 +18,8 @@ fn byte_at(words: &[u32], i: usize) -> u8 {
 
 // The bytes of a case's words, which follow their number.
 fn take_bytes(words: &[u32], bytes: &mut [u8]) {
-    let n = bytes.len();
-    let mut i: usize = 0;
-    while i < n {
-        bytes[i] = byte_at(words, wrapping_add_usize(i, 4));
-        i += 1;
+    for (i, b) in bytes.iter_mut().enumerate() {
+        *b = byte_at(words, i.wrapping_add(4));
     }
 }
 
@@ -38,13 +34,11 @@ fn front_bytes(bytes: &[u8], n: usize) -> &[u8] {
 // A text of n bytes, which 0s follow.
 fn put_text(text: &[u8], n: usize, made: &mut [u32]) -> usize {
     let at = put_number(made, 0, n);
-    let words = wrapping_add_usize(n, 3) / 4;
-    let mut i: usize = 0;
-    while i < words {
-        put(made, wrapping_add_usize(at, i), word_at(text, i));
-        i += 1;
+    let words = n.wrapping_add(3) / 4;
+    for i in 0..words {
+        put(made, at.wrapping_add(i), word_at(text, i));
     }
-    wrapping_add_usize(at, words)
+    at.wrapping_add(words)
 }
 
 pub fn probe_case(given: &[u32], made: &mut [u32]) -> usize {

@@ -3,7 +3,7 @@ use shape::refusal::Refusal;
 use stored::lent::put_number;
 
 // A refusal by its number in document 01's table, and the place.
-#[derive(Drop)]
+#[derive(Clone, Copy)]
 pub struct Reason {
     pub number: usize,
     pub place: usize,

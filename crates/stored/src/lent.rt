@@ -3,7 +3,6 @@
 // they repeat, so that a long list is a short case.
 use crate::stream::{put, word};
 use rounding::bits::{bits32, from_bits32, from_bits64};
-use std::num::wrapping_add_usize;
 
 // What lent memory holds before a call.
 pub const BLANK: f32 = 1234.5;
@@ -12,7 +11,7 @@ pub const BLANK_WORD: u32 = 0x5a5a_5a5a;
 
 // A list of a case: its length, where the words given of it start, how many they are, and where the
 // next list starts.
-#[derive(Drop)]
+#[derive(Clone, Copy)]
 pub struct List {
     pub length: usize,
     pub from: usize,
@@ -21,13 +20,13 @@ pub struct List {
 }
 
 pub fn list_at(words: &[u32], at: usize) -> List {
-    let from = wrapping_add_usize(at, 2);
-    let given = number(words, wrapping_add_usize(at, 1));
+    let from = at.wrapping_add(2);
+    let given = number(words, at.wrapping_add(1));
     List {
         length: number(words, at),
-        from: from,
-        given: given,
-        next: wrapping_add_usize(from, given),
+        from,
+        given,
+        next: from.wrapping_add(given),
     }
 }
 
@@ -53,7 +52,7 @@ fn listed(words: &[u32], l: List, i: usize) -> u32 {
     if l.given == 0 {
         return 0;
     }
-    word(words, wrapping_add_usize(l.from, i % l.given))
+    word(words, l.from.wrapping_add(i % l.given))
 }
 
 fn put_float(list: &mut [f32], i: usize, x: f32) {
@@ -70,40 +69,28 @@ fn put_height(list: &mut [f64], i: usize, x: f64) {
 
 // Makes the list at the front of `list`, if it has the room.
 pub fn take_words(words: &[u32], l: List, list: &mut [u32]) -> bool {
-    let n = l.length;
-    let mut i: usize = 0;
-    while i < n {
+    for i in 0..l.length {
         put(list, i, listed(words, l, i));
-        i += 1;
     }
     fits(l, 1, list.len())
 }
 
 pub fn take_singles(words: &[u32], l: List, list: &mut [f32]) -> bool {
-    let n = l.length;
-    let mut i: usize = 0;
-    while i < n {
+    for i in 0..l.length {
         put_float(list, i, from_bits32(listed(words, l, i)));
-        i += 1;
     }
     fits(l, 1, list.len())
 }
 
 // The double that words k and k + 1 of a list are.
 fn listed_double(words: &[u32], l: List, i: usize) -> f64 {
-    let k = wrapping_add_usize(i, i);
-    from_bits64(
-        listed(words, l, k),
-        listed(words, l, wrapping_add_usize(k, 1)),
-    )
+    let k = i.wrapping_add(i);
+    from_bits64(listed(words, l, k), listed(words, l, k.wrapping_add(1)))
 }
 
 pub fn take_doubles(words: &[u32], l: List, list: &mut [f64]) -> bool {
-    let n = l.length;
-    let mut i: usize = 0;
-    while i < n {
+    for i in 0..l.length {
         put_height(list, i, listed_double(words, l, i));
-        i += 1;
     }
     fits(l, 2, list.len())
 }
@@ -127,23 +114,19 @@ pub fn front_doubles(list: &[f64], n: usize) -> &[f64] {
 
 pub fn put_number(made: &mut [u32], at: usize, n: usize) -> usize {
     put(made, at, (n % 0x1_0000_0000) as u32);
-    wrapping_add_usize(at, 1)
+    at.wrapping_add(1)
 }
 
 pub fn put_words(made: &mut [u32], at: usize, xs: &[u32]) -> usize {
-    let mut i: usize = 0;
-    while i < xs.len() {
-        put(made, wrapping_add_usize(at, i), xs[i]);
-        i += 1;
+    for (i, x) in xs.iter().enumerate() {
+        put(made, at.wrapping_add(i), *x);
     }
-    wrapping_add_usize(at, i)
+    at.wrapping_add(xs.len())
 }
 
 pub fn put_singles(made: &mut [u32], at: usize, xs: &[f32]) -> usize {
-    let mut i: usize = 0;
-    while i < xs.len() {
-        put(made, wrapping_add_usize(at, i), bits32(xs[i]));
-        i += 1;
+    for (i, x) in xs.iter().enumerate() {
+        put(made, at.wrapping_add(i), bits32(*x));
     }
-    wrapping_add_usize(at, i)
+    at.wrapping_add(xs.len())
 }

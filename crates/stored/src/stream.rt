@@ -1,10 +1,12 @@
-// Words from standard input, the low byte first, however short the reads are.
-ghost use Rattle.std.specs.Prelude.{◌≡◌};
+// Words from a reader, as standard input, the low byte first, however short the reads are.
+ghost use Rattle.std.specs.Prelude.{◌≡◌, ◌≤◌, length};
 ghost use Rattle.stored.specs.Words.{word_at, get_word, set_word};
+
+use std::io::Read;
 
 // Where the reading stands: `at` of the `held` words in the buffer are handed out, `read` in all, and
 // `spare` bytes, too few for a word, ended the input.
-#[derive(Drop)]
+#[derive(Clone, Copy)]
 pub struct Cursor {
     pub at: usize,
     pub held: usize,
@@ -13,7 +15,7 @@ pub struct Cursor {
 }
 
 // The next word, if there is one, and where the reading stands after it.
-#[derive(Drop)]
+#[derive(Clone, Copy)]
 pub struct Step {
     pub found: bool,
     pub word: u32,
@@ -21,7 +23,7 @@ pub struct Step {
 }
 
 // A list that was read: how many words it has, and whether all came and had room.
-#[derive(Drop)]
+#[derive(Clone, Copy)]
 pub struct Taken {
     pub whole: bool,
     pub count: usize,
@@ -44,6 +46,7 @@ fn wide(x: u8) -> u32
 }
 
 // Word i of the bytes, and 0 past their last whole word.
+#[tactic(auto, unfolding(crate::specs::Words::word_at, crate::specs::Words::four_bytes))]
 pub fn word_at(bytes: &[u8], i: usize) -> u32
     ensures { result ≡ word_at bytes.now i }
 {
@@ -80,12 +83,12 @@ fn buffered(bytes: &[u8], p: Cursor) -> Step {
             at: p.at + 1,
             held: p.held,
             spare: p.spare,
-            read: std::num::wrapping_add_u64(p.read, 1),
+            read: p.read.wrapping_add(1),
         };
         return Step {
             found: true,
-            word: word,
-            place: place,
+            word,
+            place,
         };
     }
     Step {
@@ -95,10 +98,25 @@ fn buffered(bytes: &[u8], p: Cursor) -> Step {
     }
 }
 
-// Fills the buffer anew. Its length is a multiple of 4, and a read ends short only with the input, so no
-// word lies across two reads.
-fn fill(bytes: &mut [u8], p: Cursor) -> Cursor {
-    let got = io::read_full(0, bytes);
+// Reads until `bytes` is full, the input ends or a read fails, and answers how many bytes it put to the
+// start.
+fn read_full(input: &mut impl Read, bytes: &mut [u8]) -> usize
+    ensures { result ≤ length bytes.new }
+{
+    let mut done: usize = 0;
+    while done < bytes.len() {
+        match input.read(&mut bytes[done..]) {
+            Ok(n) if n > 0 => done += n,
+            _ => return done,
+        }
+    }
+    done
+}
+
+// Fills the buffer anew. Its length is a multiple of 4, and it is left short only where the input ends, so
+// no word lies across two reads.
+fn fill(input: &mut impl Read, bytes: &mut [u8], p: Cursor) -> Cursor {
+    let got = read_full(input, bytes);
     Cursor {
         at: 0,
         held: got / 4,
@@ -108,7 +126,7 @@ fn fill(bytes: &mut [u8], p: Cursor) -> Cursor {
 }
 
 // The next word. Where bytes are left over the input is at its end.
-pub fn next(bytes: &mut [u8], p: Cursor) -> Step {
+pub fn next(input: &mut impl Read, bytes: &mut [u8], p: Cursor) -> Step {
     if p.at < p.held {
         return buffered(bytes, p);
     }
@@ -119,52 +137,56 @@ pub fn next(bytes: &mut [u8], p: Cursor) -> Step {
             place: p,
         };
     }
-    let q = fill(bytes, p);
+    let q = fill(input, bytes, p);
     buffered(bytes, q)
 }
 
 // Reads n words to the start of `list`.
-fn words(bytes: &mut [u8], list: &mut [u32], n: usize, from: Cursor) -> Taken {
+fn words(
+    input: &mut impl Read,
+    bytes: &mut [u8],
+    list: &mut [u32],
+    n: usize,
+    from: Cursor,
+) -> Taken {
     let mut place = from;
-    let mut i: usize = 0;
-    while i < n {
-        let step = next(bytes, place);
+    for i in 0..n {
+        let step = next(input, bytes, place);
         place = step.place;
         if !step.found {
             return Taken {
                 whole: false,
                 count: i,
-                place: place,
+                place,
             };
         }
         put(list, i, step.word);
-        i += 1;
     }
     Taken {
         whole: true,
         count: n,
-        place: place,
+        place,
     }
 }
 
 // Reads a count and that many words to the start of `list`.
-pub fn list(bytes: &mut [u8], list: &mut [u32], from: Cursor) -> Taken {
-    let step = next(bytes, from);
+pub fn list(input: &mut impl Read, bytes: &mut [u8], list: &mut [u32], from: Cursor) -> Taken {
+    let step = next(input, bytes, from);
     let place = step.place;
     let n = step.word as usize;
     if !step.found {
         return Taken {
             whole: false,
             count: 0,
-            place: place,
+            place,
         };
     }
     if n > list.len() {
         return Taken {
             whole: false,
             count: 0,
-            place: place,
+            place,
         };
     }
-    words(bytes, list, n, place)
+    words(input, bytes, list, n, place)
 }

@@ -1,12 +1,8 @@
 // The lines that are printed.
-use libc::STDOUT_FILENO;
-
-fn number(n: u64) {
-    io::print_decimal(STDOUT_FILENO, n);
-}
+use std::io;
 
 // The numbers that a line gives.
-#[derive(Drop)]
+#[derive(Clone, Copy)]
 pub struct Tally {
     pub cases: u64,
     pub differ: u64,
@@ -24,42 +20,38 @@ pub fn nothing() -> Tally {
 // Both tallies in one. The numbers are counts of what was read, so that none comes near to wrapping.
 pub fn both(a: Tally, b: Tally) -> Tally {
     Tally {
-        cases: std::num::wrapping_add_u64(a.cases, b.cases),
-        differ: std::num::wrapping_add_u64(a.differ, b.differ),
-        skipped: std::num::wrapping_add_u64(a.skipped, b.skipped),
+        cases: a.cases.wrapping_add(b.cases),
+        differ: a.differ.wrapping_add(b.differ),
+        skipped: a.skipped.wrapping_add(b.skipped),
     }
 }
 
-fn counts(t: Tally) {
-    io::write_all(STDOUT_FILENO, b": ");
-    number(t.cases);
-    io::write_all(STDOUT_FILENO, b" cases, ");
-    number(t.differ);
-    io::write_all(STDOUT_FILENO, b" differ");
+fn counts(out: &impl Print, t: Tally) -> io::Result<()> {
+    let cases = t.cases;
+    let differ = t.differ;
+    print!(out; ": {cases} cases, {differ} differ")?;
     if t.skipped > 0 {
-        io::write_all(STDOUT_FILENO, b", ");
-        number(t.skipped);
-        io::write_all(STDOUT_FILENO, b" skipped");
+        let skipped = t.skipped;
+        print!(out; ", {skipped} skipped")?;
     }
+    Ok(())
 }
 
 // The line of one operation after its name. `first` is the number of the first case that differs, from 0.
-pub fn block_line(t: Tally, first: u64) {
-    counts(t);
+pub fn block_line(out: &impl Print, t: Tally, first: u64) -> io::Result<()> {
+    counts(out, t)?;
     if t.differ > 0 {
-        io::write_all(STDOUT_FILENO, b", first case ");
-        number(first);
+        print!(out; ", first case {first}")?;
     }
-    io::write_all(STDOUT_FILENO, b"\n");
+    println!(out; "")
 }
 
 // The last line. `broken` says that the list broke off, or had a case too long, after `read` words.
-pub fn last_line(t: Tally, broken: bool, read: u64) {
-    io::write_all(STDOUT_FILENO, b"all");
-    counts(t);
+pub fn last_line(out: &impl Print, t: Tally, broken: bool, read: u64) -> io::Result<()> {
+    print!(out; "all")?;
+    counts(out, t)?;
     if broken {
-        io::write_all(STDOUT_FILENO, b", broken at word ");
-        number(read);
+        print!(out; ", broken at word {read}")?;
     }
-    io::write_all(STDOUT_FILENO, b"\n");
+    println!(out; "")
 }

@@ -1,2 +1,0 @@
-mod Bytes
-mod Signed
