@@ -10,9 +10,9 @@ use Rattle.lookup.specs.Plain.{scan_of, entry_of}
 use Rattle.lookup.specs.Consult.{run_in, nowhere, run, consult_of}
 use Rattle.lookup.specs.Sampler.{top_fault, miss, sample_in, sample_of, onward, top_of}
 use Rattle.lookup.specs.Sixteen.{Small}
-use Rattle.lookup.specs.Laws.Scan.{scan_found}
-use Rattle.lookup.specs.Laws.Plain.{covers_below}
-use Rattle.lookup.specs.Laws.Limits.{InOrder, in_order, mesh_in_order}
+use Rattle.lookup.proofs.Laws.Scan.{scan_found}
+use Rattle.lookup.proofs.Laws.Plain.{covers_below}
+use Rattle.lookup.proofs.Laws.Limits.{InOrder, in_order, mesh_in_order}
 
 pub turned_back : (m : Mesh) (ws : List ℕ) (x y : Float) {n p : ℕ} → top_fault m ws ≡ fault n p → refused n p ≡ top_of m ws x y
 unfolding top_of judge

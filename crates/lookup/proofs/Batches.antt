@@ -5,14 +5,14 @@ use Rattle.shape.specs.Lists.{Mesh, uneven}
 use Rattle.shape.specs.Memory.{Put}
 use Rattle.shape.specs.Refusal.{fine, fault, refuse, Answer, taken, refused, judge, leaves}
 use Rattle.shape.specs.Gather.{gather}
-use Rattle.shape.specs.Laws.Gather.{gather_even}
-use Rattle.shape.specs.Laws.Memory.{sets_front}
+use Rattle.shape.proofs.Laws.Gather.{gather_even}
+use Rattle.shape.proofs.Laws.Memory.{sets_front}
 use Rattle.lookup.specs.Mesh.{triangles}
 use Rattle.lookup.specs.Consult.{head_fault}
 use Rattle.lookup.specs.Sampler.{Sample, top_fault, top_of}
 use Rattle.lookup.specs.Batch.{record_words, record_of, record_at, records_of, points_in, count_answer, tops_of}
 use Rattle.lookup.specs.Record.{room_for}
-use Rattle.lookup.specs.Laws.Batch.{record_width}
+use Rattle.lookup.proofs.Laws.Batch.{record_width}
 
 pub record_next : (a : Answer Sample) {old now : List ℕ} {at next : ℕ} → Put old now at (record_of a) next → next ≡ at + record_words
 record_next a p = p.ends ∙ ap (◌+◌ _) (record_width a)

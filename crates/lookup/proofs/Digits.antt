@@ -6,8 +6,8 @@ use lib.Ieee.Bits.{of_bits-to_bits}
 use lib.Ieee.Fits.{down_pos}
 use lib.Ieee.Exact.{HasValue, odd_sign}
 use lib.Ieee.Nearest.{div_same}
-use Rattle.rounding.specs.Laws.Order.{T_of, not-T-of, le_of_lt, le_of_not_lt, le_num_right, Le→le, lt_of_not_le as lt_of_failed}
-use Rattle.rounding.specs.Laws.Count.{to_unsigned_mono, cast_value, cast_minus}
+use Rattle.rounding.proofs.Laws.Order.{T_of, not-T-of, le_of_lt, le_of_not_lt, le_num_right, Le→le, lt_of_not_le as lt_of_failed}
+use Rattle.rounding.proofs.Laws.Count.{to_unsigned_mono, cast_value, cast_minus}
 
 -- ---- in numbers: D is the digits, x one less than the exponent's field
 

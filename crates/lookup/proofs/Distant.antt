@@ -6,10 +6,11 @@ use lib.Ieee.{Float, nan, inf, fin, binary32, neg, lt, le, mul, sub, of_bits}
 use lib.Ieee.Positive.{positive}
 use lib.Ieee.Scale.{finite}
 use Rattle.rounding.specs.Extremes.{abs_of}
-use Rattle.rounding.specs.Laws.Order.{IsNum, le_refl, le_trans, le_or_lt, le_of_lt, lt→not_le, lt_nan, le_num_right, le_bottom, le_top, T_of, not-T-of}
-use Rattle.rounding.specs.Laws.Rounding.{neg_anti}
-use Rattle.rounding.specs.Laws.Products.{mul_mono_right, mul_mono_signed, mul_num_finite}
-use Rattle.rounding.specs.Laws.Sums.{sub_mono, sub_num_left}
+use Rattle.rounding.proofs.Laws.Order.{le_refl, le_trans, le_or_lt, le_of_lt, lt→not_le, lt_nan, le_num_right, le_bottom, le_top, T_of, not-T-of}
+use Rattle.rounding.specs.Numbers.{IsNum}
+use Rattle.rounding.proofs.Laws.Rounding.{neg_anti}
+use Rattle.rounding.proofs.Laws.Products.{mul_mono_right, mul_mono_signed, mul_num_finite}
+use Rattle.rounding.proofs.Laws.Sums.{sub_mono, sub_num_left}
 use Rattle.vector.specs.Single.{◌⊖◌, ◌⊗◌, 1f, single}
 use Rattle.vector.specs.declared.coords.Point.{Point}
 use Rattle.lookup.specs.declared.mesh.Weights.{Weights}

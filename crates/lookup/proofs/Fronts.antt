@@ -2,7 +2,7 @@
 use Rattle.std.proofs.Common.{◌≡◌, ℕ, ◌+◌, ◌*◌, ◌<◌, ◌≤◌, List, ap, subst, arith}
 use lib.Ieee.{Float, binary32}
 use Rattle.lookup.specs.Column.{col}
-use Rattle.lookup.specs.Laws.Column.{col_lt}
+use Rattle.lookup.proofs.Laws.Column.{col_lt}
 use Rattle.shape.specs.Refusal.{fine, fault, taken, refused, number_of, place_of}
 use Rattle.shape.specs.declared.refusal.Refusal.{Refusal}
 use Rattle.lookup.specs.declared.consult.Front.{Front}
@@ -10,7 +10,7 @@ use Rattle.lookup.specs.declared.consult.Opened.{Opened}
 use Rattle.lookup.specs.declared.consult.Opened.TheVariants.{Open, Empty, Foreign}
 use Rattle.lookup.specs.Consult.{word_at, float_at, cell_at, first_at, head_fault, nowhere, consult_of}
 use Rattle.lookup.specs.Steps.{Sided, front_of, Ready, Opens}
-use Rattle.lookup.specs.Laws.Heads.{grid_small, consult_refused}
+use Rattle.lookup.proofs.Laws.Heads.{grid_small, consult_refused}
 
 module _ {h : Front} (ws : List ℕ) (e : h ≡ front_of ws) where
   pub cols_is : h.cols ≡ word_at ws 1

@@ -18,3 +18,7 @@ pub mod Sixteens
 pub mod Answers
 pub mod Fronts
 pub mod Reach
+pub mod Laws
+pub mod Examples
+pub mod IndexExamples
+pub mod SamplerExamples

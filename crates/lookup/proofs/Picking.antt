@@ -3,8 +3,9 @@ use Rattle.std.proofs.Common.{◌≡◌, ℕ, Bool, true, false, List, sym, ap, 
 use lib.Ieee.{Float, nan, inf, fin, binary32, add, lt, le, eq, ne, is_nan}
 use lib.Ieee.Bits.{is_true, is_false}
 use Rattle.rounding.specs.Extremes.{first, ge, min_of, max_of}
-use Rattle.rounding.specs.Laws.Order.{IsNum, T_of, not_nan_num, num_of_same, nan_of_differs, lt_num_left, lt_num_right, lt_iff_not_le, le_of_not_lt}
-use Rattle.rounding.specs.Laws.Sums.{add_num_left, add_num_right, sub_num_left}
+use Rattle.rounding.proofs.Laws.Order.{T_of, not_nan_num, num_of_same, nan_of_differs, lt_num_left, lt_num_right, lt_iff_not_le, le_of_not_lt}
+use Rattle.rounding.specs.Numbers.{IsNum}
+use Rattle.rounding.proofs.Laws.Sums.{add_num_left, add_num_right, sub_num_left}
 use Rattle.vector.specs.declared.coords.Point.{Point}
 use Rattle.lookup.specs.Mesh.{corners_of}
 use Rattle.lookup.specs.Box.{around_of, slack_of, grown_of, grown_box, box_of, merge_of}

@@ -3,17 +3,19 @@ use Rattle.std.proofs.Common.{◌≡◌, ℕ, zero, suc, ◌+◌, ◌-◌, ◌*�
 use lib.Ieee.{Float, nan, inf, fin, binary32, add, sub, lt, le, fits}
 use lib.Ieee.Fits.{add-fits}
 use Rattle.lookup.specs.Column.{col}
-use Rattle.rounding.specs.Laws.Order.{IsNum, le_bottom, le_or_lt, le_of_lt, le_num_left, le_num_right, lt_num_left, lt_of_le_of_lt}
-use Rattle.lookup.specs.Laws.Column.{Width, col_mono, col_lt, low_bucket}
-use Rattle.rounding.specs.Laws.Past.{past}
-use Rattle.rounding.specs.Laws.Sums.{add_num, add_num_left, sub_num_right, add_mono_left}
+use Rattle.rounding.proofs.Laws.Order.{le_bottom, le_or_lt, le_of_lt, le_num_left, le_num_right, lt_num_left, lt_of_le_of_lt}
+use Rattle.rounding.specs.Numbers.{IsNum}
+use Rattle.lookup.proofs.Laws.Column.{col_mono, col_lt, low_bucket}
+use Rattle.lookup.specs.Column.{Width}
+use Rattle.rounding.proofs.Laws.Past.{past}
+use Rattle.rounding.proofs.Laws.Sums.{add_num, add_num_left, sub_num_right, add_mono_left}
 use Rattle.lookup.specs.Mesh.{corners_of}
 use Rattle.lookup.specs.Box.{grown_box, box_of}
 use Rattle.lookup.specs.Index.{block_of, blocks_of, in_cell, start, cells_of}
 use Rattle.lookup.specs.Steps.{Framed, Fits, Narrow}
-use Rattle.lookup.specs.Laws.Parts.{start_le}
-use Rattle.lookup.specs.Laws.Cells.{start_area}
-use Rattle.lookup.specs.Laws.Frames.{inside_of}
+use Rattle.lookup.proofs.Laws.Parts.{start_le}
+use Rattle.lookup.proofs.Laws.Cells.{start_area}
+use Rattle.lookup.proofs.Laws.Frames.{inside_of}
 use Rattle.lookup.specs.declared.mesh.Fetch.{Fetch}
 use Rattle.lookup.specs.declared.mesh.Fetch.TheVariants.{Corners, Missing}
 use Rattle.lookup.specs.declared.boxes.Aabb.{Aabb}

@@ -4,7 +4,7 @@ use native.Mathlib.Decide.{dec_lt}
 use Rattle.shape.specs.Lists.{word_of, end_of}
 use Rattle.lookup.specs.Sampler.{EndsRise, past_of}
 use Rattle.lookup.specs.Steps.{Halved}
-use Rattle.lookup.specs.Laws.Spans.{past_is}
+use Rattle.lookup.proofs.Laws.Spans.{past_is}
 
 module _ (ss : List ℕ) (i n : ℕ) where
   pub whole : Halved ss i n 0 (0 + n)

@@ -2,7 +2,7 @@
 use Rattle.std.proofs.Common.{◌≡◌, ℕ, zero, suc, ◌+◌, ◌-◌, ◌*◌, ◌<◌, ◌≤◌, Bool, true, false, ◌&&◌, ◌⊎◌, List, length, get_or, take, drop, set, sym, refl, ap, ◌∙◌, subst, ⊎_elim, le_of_suc-le-suc, eq-or-lt_of_le, add-one, arith, length-drop, length-set, length-take-le, get_or-drop, get_or-set_other, get_or-take, get_or-set_same}
 use native.Mathlib.Decide.{dec_lt}
 use lib.Ieee.{Float, nan, lt}
-use Rattle.rounding.specs.Laws.Order.{T_of}
+use Rattle.rounding.proofs.Laws.Order.{T_of}
 use Rattle.vector.specs.Single.{0f}
 use Rattle.vector.specs.declared.coords.Point.{Point}
 use Rattle.shape.specs.Refusal.{fine, Answer, taken, refused, number_of, place_of}
@@ -20,9 +20,9 @@ use Rattle.lookup.specs.Plain.{scan_of, entry_of}
 use Rattle.lookup.specs.Consult.{entry_fault, word_at, Candidates, nowhere}
 use Rattle.lookup.specs.Steps.{Runs, Started}
 use Rattle.lookup.specs.Sixteen.{ground_at, Over, Grounded, CornersUnder, There, AllUnder, Exactly, Gathered, Low, AllLow, Weighed, Weighs, PeakWeighed, HitOf}
-use Rattle.lookup.specs.Laws.Heads.{entry_none, entry_step}
-use Rattle.lookup.specs.Laws.Plain.{present_below}
-use Rattle.lookup.specs.Laws.Parts.{both}
+use Rattle.lookup.proofs.Laws.Heads.{entry_none, entry_step}
+use Rattle.lookup.proofs.Laws.Plain.{present_below}
+use Rattle.lookup.proofs.Laws.Parts.{both}
 use Rattle.lookup.proofs.Turns.{there, missing, weights_are}
 
 -- what holds of each number below n, and of n, holds of each below suc n

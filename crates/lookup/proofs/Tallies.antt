@@ -2,9 +2,10 @@
 use Rattle.std.proofs.Common.{◌≡◌, ℕ, zero, suc, ◌+◌, ◌<◌, ◌≤◌, Bool, true, false, cond, not, T, ltb, List, sym, refl, ap, ◌∙◌, subst, true≢false, add-zero, add-one, arith, ltb→lt, nltb→le}
 use lib.Ieee.{Float, of_bits, ne, le, is_nan}
 use Rattle.rounding.specs.Extremes.{first, ge, min_of, max_of}
-use Rattle.rounding.specs.Laws.Order.{IsNum, le_trans, num_of_same}
-use Rattle.rounding.specs.Laws.Extremes.{max_picks}
-use Rattle.rounding.specs.Laws.Sums.{add_num_left, add_num_right, sub_num_right}
+use Rattle.rounding.proofs.Laws.Order.{le_trans, num_of_same}
+use Rattle.rounding.specs.Numbers.{IsNum}
+use Rattle.rounding.proofs.Laws.Extremes.{max_picks}
+use Rattle.rounding.proofs.Laws.Sums.{add_num_left, add_num_right, sub_num_right}
 use Rattle.vector.specs.Single.{◌⊕◌, ◌⊖◌, 0f}
 use Rattle.vector.specs.declared.coords.Point.{Point}
 use Rattle.lookup.specs.Mesh.{triangles, corners_of}

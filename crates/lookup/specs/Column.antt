@@ -1,7 +1,7 @@
 -- The column of a grid that a coordinate x falls into (the Rust's `Grid::bucket` and `Grid::col`): the floor of (x - m) / cell, cut to the range of the grid.
 -- Definitions only. Assumes nothing.
-use Rattle.std.specs.Prelude.{ℕ, ◌-◌, min, false, cond, ◌||◌, pos, Float}
-use Rattle.std.specs.Float.{fin, Format}
+use Rattle.std.specs.Prelude.{◌≡◌, ℕ, ◌-◌, min, false, cond, ◌||◌, pos, Float}
+use Rattle.std.specs.Float.{nan, inf, fin, Format}
 use Rattle.std.specs.Float.Ieee.{sub, div, lt, is_nan, to_unsigned}
 use Rattle.rounding.specs.Whole.{whole_of, floor_of}
 
@@ -15,3 +15,9 @@ bucket f off cell count =
 unfoldable pub col : Format → Float → Float → ℕ → Float → ℕ
 unfolding bucket sub
 col f m cell count x = bucket f (sub f x m) cell count
+
+-- a cell's width: anything but a negative number or -0
+abbrev pub Width : Float → Type 0
+Width nan = Unit {0}
+Width (inf s) = s ≡ false
+Width (fin s m e) = s ≡ false

@@ -1,4 +1,4 @@
--- The definitions, a file for each part of document 01's "Height under a wheel", and the laws about them.
+-- The definitions, a file for each part of document 01's "Height under a wheel".
 pub mod Mesh
 pub mod Cover
 pub mod Fold
@@ -11,11 +11,7 @@ pub mod Column
 pub mod Index
 pub mod Consult
 pub mod Steps
-pub mod IndexExamples
 pub mod Sampler
 pub mod Batch
 pub mod Record
 pub mod Demand3
-pub mod Laws
-pub mod Examples
-pub mod SamplerExamples

@@ -6,7 +6,8 @@ use lib.Ieee.{Float, nan, inf, fin, Format, prec, low, odd, hid, ones, top, of_f
 use lib.Ieee.Bits.{is_false, of_bits-to_bits, nan_bits_is, nan_bits_above}
 use lib.Ieee.Scale.{finite}
 use Rattle.rounding.specs.Extremes.{first, ge, min_of, max_of, clamp_of, abs_of}
-use Rattle.rounding.specs.Laws.Order.{IsNum, not_nan_num, le_num_left, le_num_right, T_of, not-T-of, num_of_same, nan_of_differs}
+use Rattle.rounding.proofs.Laws.Order.{not_nan_num, le_num_left, le_num_right, T_of, not-T-of, num_of_same, nan_of_differs}
+use Rattle.rounding.specs.Numbers.{IsNum}
 use Rattle.rounding.proofs.Fields.{of_bits_is, low_part, no_nan}
 use Rattle.rounding.proofs.Words.{plain_word, masked}
 

@@ -4,9 +4,10 @@ use native.Mathlib.Nat.{min-eq_right}
 use lib.Ieee.{Float, nan, inf, fin, up, down, lt, le, to_unsigned, to_signed}
 use lib.Ieee.Casts.{to_unsigned-lt}
 use lib.Ieee.Fits.{down_pos}
-use Rattle.rounding.specs.Laws.Order.{IsNum, le→Le, le_num_right, lt_num_left, lt_num_right, lt_trans, T_of, not-T-of, lt_of_not_le, le_of_not_lt, le_of_lt}
-use Rattle.rounding.specs.Laws.Signed.{Cross}
-use Rattle.rounding.specs.Laws.Count.{to_unsigned_mono}
+use Rattle.rounding.proofs.Laws.Order.{le→Le, le_num_right, lt_num_left, lt_num_right, lt_trans, T_of, not-T-of, lt_of_not_le, le_of_not_lt, le_of_lt}
+use Rattle.rounding.specs.Numbers.{IsNum}
+use Rattle.rounding.proofs.Laws.Signed.{Cross}
+use Rattle.rounding.proofs.Laws.Count.{to_unsigned_mono}
 
 abbrev nought : Float
 nought = fin false 0 (pos 0)

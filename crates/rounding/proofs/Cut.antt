@@ -11,8 +11,8 @@ use lib.Ieee.Exact.{HasValue, round_exact}
 use lib.Ieee.Positive.{first_pos}
 use Rattle.rounding.specs.Steps.{Wholes, limit_of, size_of, addend_of, way_of}
 use Rattle.rounding.specs.Whole.{Way, toward, half, away, moves, one_if, whole_by}
-use Rattle.rounding.specs.Laws.Basics.{leb_same, div_at, emax_ge, ones_ge}
-use Rattle.rounding.specs.Laws.Whole.{whole_by_same, whole_by_is, size_one}
+use Rattle.rounding.proofs.Laws.Basics.{leb_same, div_at, emax_ge, ones_ge}
+use Rattle.rounding.proofs.Laws.Whole.{whole_by_same, whole_by_is, size_one}
 use Rattle.rounding.proofs.Pattern.{twice, bits_of}
 
 -- ---- a whole number K that is q * 2 ^ h of the format's smallest values

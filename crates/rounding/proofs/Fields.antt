@@ -13,8 +13,8 @@ use lib.Ieee.Nearest.{div_same}
 use lib.Ieee.Positive.{first_pos}
 use lib.Ieee.Compare.{differs_from_itself}
 use Rattle.rounding.specs.Root.{isqrt, root_of, sqrt_of}
-use Rattle.rounding.specs.Laws.Basics.{same_test}
-use Rattle.rounding.specs.Laws.RootNearest.{over, root_of_is, sqrt_fin}
+use Rattle.rounding.proofs.Laws.Basics.{same_test}
+use Rattle.rounding.proofs.Laws.RootNearest.{over, root_of_is, sqrt_fin}
 
 -- ---- equal fractions have the same root
 

@@ -3,7 +3,7 @@
 use Rattle.std.proofs.Common.{◌≡◌, ℕ, zero, suc, ◌+◌, ◌-◌, ◌*◌, ◌/◌, ◌%◌, ◌^◌, ◌<◌, ◌≤◌, ap, mul-le-mul_right, mod-lt, mul-le-mul, div-add-mod', arith}
 use native.Mathlib.Nat.{div-le_of_le-mul}
 use Rattle.rounding.specs.Steps.{Root}
-use Rattle.rounding.specs.Laws.Isqrt.{sq_lt}
+use Rattle.rounding.proofs.Laws.Isqrt.{sq_lt}
 
 -- ---- the guess's numbers fit
 

@@ -5,9 +5,9 @@ use lib.Ieee.Fits.{add-fits}
 use Rattle.rounding.specs.Hypot.{squares_of, hypot_of}
 use Rattle.rounding.specs.Width.{narrow_of}
 use Rattle.rounding.specs.Thresholds.{milli}
-use Rattle.rounding.specs.Laws.RootOrder.{nought}
-use Rattle.rounding.specs.Laws.RootTest.{narrowed, above, edge, root_at_most}
-use Rattle.rounding.specs.Laws.Thresholds.{passes_milli}
+use Rattle.rounding.specs.Numbers.{nought}
+use Rattle.rounding.proofs.Laws.RootTest.{narrowed, above, edge, root_at_most}
+use Rattle.rounding.proofs.Laws.Thresholds.{passes_milli}
 
 squares_fit : (a b : Float) → T (fits binary64 (squares_of a b))
 unfolding squares_of

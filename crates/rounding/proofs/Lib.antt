@@ -15,3 +15,5 @@ pub mod Choosing
 pub mod Counting
 pub mod Widening
 pub mod Nearby
+pub mod Laws
+pub mod Examples

@@ -10,8 +10,8 @@ use lib.Ieee.Fits.{two, down_pos}
 use lib.Ieee.Nearest.{div_mono}
 use Rattle.rounding.specs.Root.{near_one}
 use Rattle.rounding.specs.Steps.{size_of}
-use Rattle.rounding.specs.Laws.Basics.{same_test}
-use Rattle.rounding.specs.Laws.Order.{le→Le, Le→le, lt_iff_not_le, nan_of_differs}
+use Rattle.rounding.proofs.Laws.Basics.{same_test}
+use Rattle.rounding.proofs.Laws.Order.{le→Le, Le→le, lt_iff_not_le, nan_of_differs}
 use Rattle.rounding.proofs.Pattern.{twice}
 use Rattle.rounding.proofs.Cut.{expo, digs, parts}
 use Rattle.rounding.proofs.Sign.{sized, sized_lt, is_inf, finite_odd}

@@ -9,8 +9,8 @@ use lib.Ieee.Digits.{size-le}
 use lib.Ieee.Fits.{two, round_is, nearest-le}
 use lib.Ieee.Exact.{units_val}
 use lib.Ieee.Nearest.{closest, closest_same, div_same, nearest-ge}
-use Rattle.rounding.specs.Laws.Basics.{pow_le_back, div_at, ones_ge}
-use Rattle.rounding.specs.Laws.Nearest.{Cmp, cmp}
+use Rattle.rounding.proofs.Laws.Basics.{pow_le_back, div_at, ones_ge}
+use Rattle.rounding.proofs.Laws.Nearest.{Cmp, cmp}
 use Rattle.rounding.proofs.Pattern.{twice, size_at, bits_of}
 
 -- ---- the two sides of the largest number

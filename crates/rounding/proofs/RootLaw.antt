@@ -13,9 +13,9 @@ use lib.Ieee.Scale.{grid, overflow, round_val}
 use Rattle.rounding.specs.Root.{isqrt, root_of}
 use Rattle.rounding.specs.Steps.{Root, Rooted}
 use Rattle.rounding.proofs.Pattern.{twice, size_at, bits_of}
-use Rattle.rounding.specs.Laws.Isqrt.{sq_lt, isqrt_root}
-use Rattle.rounding.specs.Laws.Nearest.{Cmp, cmp}
-use Rattle.rounding.specs.Laws.RootNearest.{over, over_le, root_of_is, four}
+use Rattle.rounding.proofs.Laws.Isqrt.{sq_lt, isqrt_root}
+use Rattle.rounding.proofs.Laws.Nearest.{Cmp, cmp}
+use Rattle.rounding.proofs.Laws.RootNearest.{over, over_le, root_of_is, four}
 
 -- ---- the root of M * P * P is between R * P and (R + 1) * P, for the root R of M
 

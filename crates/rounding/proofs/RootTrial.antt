@@ -6,8 +6,8 @@ use lib.Ieee.{Format, binary32, binary64, prec, emax, low, hid, ones, of_bits}
 use lib.Ieee.Fits.{two}
 use Rattle.rounding.specs.Root.{isqrt, root_of, sqrt_of}
 use Rattle.rounding.specs.Steps.{Root, Rooted}
-use Rattle.rounding.specs.Laws.Basics.{emax_ge}
-use Rattle.rounding.specs.Laws.Isqrt.{sq_lt, isqrt_root}
+use Rattle.rounding.proofs.Laws.Basics.{emax_ge}
+use Rattle.rounding.proofs.Laws.Isqrt.{sq_lt, isqrt_root}
 use Rattle.rounding.proofs.Pattern.{twice}
 use Rattle.rounding.proofs.RootLaw.{law}
 use Rattle.rounding.proofs.Fields.{sqrt_mid}

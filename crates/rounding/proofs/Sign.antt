@@ -11,7 +11,7 @@ use lib.Ieee.Bits.{of_bits-to_bits, nan_bits_is, nan_bits_above}
 use lib.Ieee.Compare.{differs_from_itself}
 use Rattle.rounding.specs.Steps.{Wholes, size_of, way_of}
 use Rattle.rounding.specs.Whole.{Way, ways, whole_by, whole_of}
-use Rattle.rounding.specs.Laws.Whole.{whole_by_same}
+use Rattle.rounding.proofs.Laws.Whole.{whole_by_same}
 use Rattle.rounding.proofs.Fields.{of_bits_is, field_some, low_part, under_top}
 use Rattle.rounding.proofs.Words.{sign_bit}
 use Rattle.rounding.proofs.Cut.{expo, digs}

@@ -9,7 +9,7 @@ use lib.Ieee.{Float, nan, inf, fin, Format, binary32, binary64, hid, ones, top, 
 use lib.Ieee.Bits.{to_bits-lt, nan_bits_is, nan_bits_above}
 use lib.Ieee.Compare.{differs_from_itself}
 use Rattle.rounding.specs.Stored.{stored_of}
-use Rattle.rounding.specs.Laws.Order.{T_of}
+use Rattle.rounding.proofs.Laws.Order.{T_of}
 
 nan_only : (x : Float) → T (is_nan x) → nan ≡ x
 unfolding is_nan

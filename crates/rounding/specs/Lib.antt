@@ -1,4 +1,4 @@
--- The definitions, a file for each group of operations; what the private functions promise; worked examples; and the laws.
+-- The definitions, a file for each group of operations; what the private functions promise.
 pub mod Root
 pub mod Whole
 pub mod Width
@@ -7,5 +7,4 @@ pub mod Stored
 pub mod Hypot
 pub mod Thresholds
 pub mod Steps
-pub mod Examples
-pub mod Laws
+pub mod Numbers

@@ -7,12 +7,13 @@ use lib.Ieee.Positive.{positive, between}
 use Rattle.rounding.specs.Root.{sqrt_of}
 use Rattle.rounding.specs.Thresholds.{micro}
 use Rattle.rounding.specs.Extremes.{first, min_of}
-use Rattle.rounding.specs.Laws.Order.{T_of, not-T-of, nan_le, le_nan, le_trans, le_of_lt}
-use Rattle.rounding.specs.Laws.Extremes.{min_picks, max_picks}
-use Rattle.rounding.specs.Laws.Least.{div_anti}
-use Rattle.rounding.specs.Laws.Products.{mul_mono_right}
-use Rattle.rounding.specs.Laws.Quotients.{div_mono}
-use Rattle.rounding.specs.Laws.RootOrder.{nought, sqrt_mono}
+use Rattle.rounding.proofs.Laws.Order.{T_of, not-T-of, nan_le, le_nan, le_trans, le_of_lt}
+use Rattle.rounding.proofs.Laws.Extremes.{min_picks, max_picks}
+use Rattle.rounding.proofs.Laws.Least.{div_anti}
+use Rattle.rounding.proofs.Laws.Products.{mul_mono_right}
+use Rattle.rounding.proofs.Laws.Quotients.{div_mono}
+use Rattle.rounding.proofs.Laws.RootOrder.{sqrt_mono}
+use Rattle.rounding.specs.Numbers.{nought}
 use Rattle.vector.specs.Single.{◌⊗◌, ◌⊘◌, single, 0f, 1f}
 use Rattle.vector.specs.declared.coords.Vector.{Vector}
 use Rattle.shape.specs.declared.rib.Leg.{Leg}

@@ -4,13 +4,13 @@ use native.Mathlib.Decide.{dec_lt}
 use lib.IntN.{suc_ℤ, pred_ℤ, sub_ℕ}
 use lib.Ieee.{Float, nan, inf, fin, binary64, up, down, le, neg, round, of_bits, of_int, in_float, to_unsigned, to_signed}
 use Rattle.rounding.specs.Whole.{whole_of}
-use Rattle.rounding.specs.Laws.Order.{le_trans}
-use Rattle.rounding.specs.Laws.Rounding.{neg_anti, round_order}
-use Rattle.rounding.specs.Laws.Count.{to_unsigned_mono}
-use Rattle.rounding.specs.Laws.Whole.{floor_mono}
+use Rattle.rounding.proofs.Laws.Order.{le_trans}
+use Rattle.rounding.proofs.Laws.Rounding.{neg_anti, round_order}
+use Rattle.rounding.proofs.Laws.Count.{to_unsigned_mono}
+use Rattle.rounding.proofs.Laws.Whole.{floor_mono}
 use Rattle.shape.specs.Gather.{any}
 use Rattle.shape.specs.Lists.{start_of, end_of, run_long}
-use Rattle.shape.specs.Laws.Lists.{short}
+use Rattle.shape.proofs.Laws.Lists.{short}
 use Rattle.shape.specs.Elevation.{nth, part, floored, longest, widest_of, row_count, count}
 use Rattle.shape.specs.ElevationSteps.{1024d, Near}
 use Rattle.shape.specs.declared.elevation.Run.{Run}

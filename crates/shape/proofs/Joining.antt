@@ -17,7 +17,7 @@ use Rattle.shape.specs.declared.refusal.Refusal.TheVariants.{ShortOutput}
 use Rattle.shape.specs.Gather.{gather, any}
 use Rattle.shape.specs.Memory.{Put}
 use Rattle.shape.specs.Refusal.{fine, fault, refuse, judge, leaves, number_of, place_of}
-use Rattle.shape.specs.Laws.Refusal.{passed, else_passed}
+use Rattle.shape.proofs.Laws.Refusal.{passed, else_passed}
 use Rattle.shape.specs.Lists.{longer, uneven, point_at, start_of, end_of, last_end, run_bad, run_of}
 use Rattle.shape.specs.Outline.{
   reach_of,
@@ -65,9 +65,9 @@ use Rattle.shape.specs.Outline.{
   Outlines,
 }
 use Rattle.shape.specs.OutlineSteps.{SoundLists, Holds, Joins}
-use Rattle.shape.specs.Laws.Gather.{gather_next, gather_fits, gather_even}
-use Rattle.shape.specs.Laws.Lists.{Sound, sound}
-use Rattle.shape.specs.Laws.Memory.{sets_append, sets_front, take_sets_front}
+use Rattle.shape.proofs.Laws.Gather.{gather_next, gather_fits, gather_even}
+use Rattle.shape.proofs.Laws.Lists.{Sound, sound}
+use Rattle.shape.proofs.Laws.Memory.{sets_append, sets_front, take_sets_front}
 
 -- ---- the coordinates of a list of points
 

@@ -10,3 +10,10 @@ pub mod Joining
 pub mod Reaching
 pub mod Verdicts
 pub mod Rising
+pub mod Laws
+pub mod CaseTests
+pub mod CasesEars
+pub mod CasesElevation
+pub mod CasesJunction
+pub mod CasesStrips
+pub mod Cases

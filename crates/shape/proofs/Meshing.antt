@@ -36,10 +36,10 @@ use Rattle.shape.specs.SurfaceMesh.{
   answer_of,
 }
 use Rattle.shape.specs.MeshSteps.{lengths_at, Grown, Topped, Enough, Sizes, Room, Wrote, Written, Fitting}
-use Rattle.shape.specs.Laws.Gather.{gather_next, gather_fits, gather_most}
-use Rattle.shape.specs.Laws.Memory.{put_none, put_length, put_turn, put_front}
-use Rattle.shape.specs.Laws.MeshMemory.{Fits, first_fine, both_fine, room_fits, fits_room, mesh_left, mesh_stays}
-use Rattle.shape.specs.Laws.SurfaceMesh.{normals_match}
+use Rattle.shape.proofs.Laws.Gather.{gather_next, gather_fits, gather_most}
+use Rattle.shape.proofs.Laws.Memory.{put_none, put_length, put_turn, put_front}
+use Rattle.shape.proofs.Laws.MeshMemory.{Fits, first_fine, both_fine, room_fits, fits_room, mesh_left, mesh_stays}
+use Rattle.shape.proofs.Laws.SurfaceMesh.{normals_match}
 use Rattle.shape.proofs.Strips.{vertices_length, segment_length, cond_few}
 
 -- a run that is not too long

@@ -7,15 +7,17 @@ use Rattle.rounding.specs.Extremes.{max_of}
 use Rattle.rounding.specs.Hypot.{squares_of, hypot_of}
 use Rattle.rounding.specs.Root.{sqrt_of}
 use Rattle.rounding.specs.Thresholds.{milli}
-use Rattle.rounding.specs.Laws.Order.{IsNum, le→Le, le_refl, le_trans, le_num_left, le_num_right, le_of_eq, le_of_lt, le_of_not_lt, lt→not_le, lt_of_lt_of_le}
-use Rattle.rounding.specs.Laws.Rounding.{Signed, neg_anti, round_num}
-use Rattle.rounding.specs.Laws.Products.{mul_num, mul_mono, mul_mono_signed_right}
-use Rattle.rounding.specs.Laws.Sums.{add_mono, add_num, add_num_left, add_num_right}
-use Rattle.rounding.specs.Laws.RootOrder.{nought, sqrt_mono, root_number}
-use Rattle.rounding.specs.Laws.Width.{narrow_mono, narrow_num}
-use Rattle.rounding.specs.Laws.Extremes.{max_picks}
+use Rattle.rounding.proofs.Laws.Order.{le→Le, le_refl, le_trans, le_num_left, le_num_right, le_of_eq, le_of_lt, le_of_not_lt, lt→not_le, lt_of_lt_of_le}
+use Rattle.rounding.specs.Numbers.{IsNum}
+use Rattle.rounding.proofs.Laws.Rounding.{Signed, neg_anti, round_num}
+use Rattle.rounding.proofs.Laws.Products.{mul_num, mul_mono, mul_mono_signed_right}
+use Rattle.rounding.proofs.Laws.Sums.{add_mono, add_num, add_num_left, add_num_right}
+use Rattle.rounding.proofs.Laws.RootOrder.{sqrt_mono, root_number}
+use Rattle.rounding.specs.Numbers.{nought}
+use Rattle.rounding.proofs.Laws.Width.{narrow_mono, narrow_num}
+use Rattle.rounding.proofs.Laws.Extremes.{max_picks}
 use Rattle.vector.specs.Single.{◌⊖◌}
-use Rattle.vector.specs.Laws.{square_least, sum_least}
+use Rattle.vector.proofs.Laws.{square_least, sum_least}
 use Rattle.vector.specs.declared.coords.Point.{Point}
 use Rattle.shape.specs.declared.junction_areas.Gap.{Gap}
 use Rattle.shape.specs.Outline.{reach_of}

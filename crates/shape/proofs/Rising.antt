@@ -4,7 +4,7 @@ use native.Mathlib.Decide.{dec_lt}
 use borrow.Author.Tests.{lt-leb}
 use Rattle.shape.specs.Gather.{any}
 use Rattle.shape.specs.Lists.{start_of, end_of, last_end, run_bad}
-use Rattle.shape.specs.Laws.Gather.{any_some}
+use Rattle.shape.proofs.Laws.Gather.{any_some}
 
 -- the runs of the first i spans, whose starts are words a, rise
 pub record Rises (ss : List ℕ) (a i : ℕ) : Type 0 where

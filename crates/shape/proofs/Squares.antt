@@ -2,7 +2,7 @@
 use Rattle.std.proofs.Common.{◌≡◌, ℕ, ◌+◌, ◌-◌, ◌*◌, ◌<◌, ◌≤◌, Bool, true, false, ◌&&◌, ◌||◌, T, eqb, List, length, ℤ, refl, ap, ◌∙◌, arith, le-ltb, lt-ltb}
 use lib.IntN.{pred_ℤ, sub_ℕ}
 use lib.Ieee.{Float, nan, inf, fin, le, eq, ne, neg, is_nan, to_signed}
-use Rattle.rounding.specs.Laws.Order.{T_of, not-T-of, nan_of_differs}
+use Rattle.rounding.proofs.Laws.Order.{T_of, not-T-of, nan_of_differs}
 use Rattle.shape.specs.Double.{0d, 1d, ◌⊟◌, ◌⧄◌}
 use Rattle.shape.specs.Elevation.{
   row_of,

@@ -4,8 +4,8 @@ use lib.Ieee.{Float, lt, of_bits}
 use lib.ListN.{length-replicate}
 use Rattle.rounding.specs.Extremes.{max_of}
 use Rattle.rounding.specs.Thresholds.{tenth}
-use Rattle.rounding.specs.Laws.Order.{lt_of_le_of_lt, not-T-of}
-use Rattle.rounding.specs.Laws.Extremes.{max_picks}
+use Rattle.rounding.proofs.Laws.Order.{lt_of_le_of_lt, not-T-of}
+use Rattle.rounding.proofs.Laws.Extremes.{max_picks}
 use Rattle.vector.specs.Coords.{point_add, point_sub_vector, vector_mul, cross_of, up_vector, normalize_or}
 use Rattle.vector.specs.Geometry.{left_normal_of}
 use Rattle.vector.specs.declared.coords.Point.{Point}
@@ -34,7 +34,7 @@ use Rattle.shape.specs.Strip.{
   vertices_of,
   normals_of,
 }
-use Rattle.shape.specs.Laws.Gather.{gather_even}
+use Rattle.shape.proofs.Laws.Gather.{gather_even}
 
 -- either of two within a bound is within it
 pub cond_le : (k : Bool) (a b m : ℕ) → a ≤ m → b ≤ m → cond k a b ≤ m

@@ -4,8 +4,8 @@ use borrow.Author.Tests.{not-true, not-false}
 use Rattle.shape.specs.Gather.{any}
 use Rattle.shape.specs.Refusal.{fine, refuse, or_else}
 use Rattle.shape.specs.Lists.{max_ring, max_rows, longer, uneven, word_of, last_end, run_bad, run_long}
-use Rattle.shape.specs.Laws.Gather.{any_next, any_some, or_left, or_right}
-use Rattle.shape.specs.Laws.Refusal.{passed, else_passed}
+use Rattle.shape.proofs.Laws.Gather.{any_next, any_some, or_left, or_right}
+use Rattle.shape.proofs.Laws.Refusal.{passed, else_passed}
 use Rattle.shape.specs.Elevation.{row_of, row_count, longest, widest_of, grid_long, grid_ragged, grid_check}
 use Rattle.shape.specs.ElevationSteps.{odd_run, odd_runs, pass_of, fault_of, limits_seen, ragged_seen, widest_seen, Limits}
 use Rattle.shape.specs.JunctionMesh.{Ground, ground_limits, ground_ragged, ground_input}

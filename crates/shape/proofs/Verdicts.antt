@@ -11,7 +11,7 @@ use Rattle.shape.specs.Gather.{any, least}
 use Rattle.shape.specs.Lists.{point_at}
 use Rattle.shape.specs.Strip.{no_area}
 use Rattle.shape.specs.Verdict.{FiniteBelow, unsound, flat_or, finding_of, is_faulty, faulty_at, triples_of}
-use Rattle.shape.specs.Laws.Gather.{any_none, least_at, least_none}
+use Rattle.shape.proofs.Laws.Gather.{any_none, least_at, least_none}
 
 -- ---- finite numbers
 

@@ -7,10 +7,11 @@ use Rattle.rounding.specs.Root as Root
 use Rattle.rounding.specs.Root.{sqrt_of}
 use Rattle.rounding.specs.Extremes.{max_of}
 use Rattle.rounding.specs.Thresholds.{tenth}
-use Rattle.rounding.specs.Laws.Order.{T_of, le_trans, lt_of_le_of_lt, lt_of_lt_of_le}
-use Rattle.rounding.specs.Laws.Extremes.{max_picks}
-use Rattle.rounding.specs.Laws.Products.{mul_mono_right}
-use Rattle.rounding.specs.Laws.RootOrder.{nought, sqrt_mono}
+use Rattle.rounding.proofs.Laws.Order.{T_of, le_trans, lt_of_le_of_lt, lt_of_lt_of_le}
+use Rattle.rounding.proofs.Laws.Extremes.{max_picks}
+use Rattle.rounding.proofs.Laws.Products.{mul_mono_right}
+use Rattle.rounding.proofs.Laws.RootOrder.{sqrt_mono}
+use Rattle.rounding.specs.Numbers.{nought}
 use Rattle.vector.specs.Single.{◌⊗◌, single, 0f}
 use Rattle.shape.specs.Strip.{quarter, keeps_step}
 

@@ -1,4 +1,4 @@
--- The definitions, a file for each section of document 01, and the laws about them.
+-- The definitions, a file for each section of document 01.
 pub mod Gather
 pub mod Memory
 pub mod Refusal
@@ -6,20 +6,13 @@ pub mod Lists
 pub mod MeshMemory
 pub mod Ears
 pub mod EarSteps
-pub mod CaseTests
-pub mod CasesEars
 pub mod Double
 pub mod Elevation
 pub mod ElevationSteps
-pub mod CasesElevation
 pub mod Strip
 pub mod SurfaceMesh
 pub mod MeshSteps
-pub mod CasesStrips
 pub mod Verdict
 pub mod Outline
 pub mod OutlineSteps
 pub mod JunctionMesh
-pub mod CasesJunction
-pub mod Cases
-pub mod Laws

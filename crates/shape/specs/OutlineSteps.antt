@@ -6,8 +6,8 @@ use Rattle.std.specs.Float.Ieee.{le, mul}
 use Rattle.rounding.specs.Hypot.{squares_of}
 use Rattle.rounding.specs.Root.{sqrt_of}
 use Rattle.rounding.specs.Width.{narrow_of}
-use Rattle.rounding.specs.Laws.Order.{IsNum}
-use Rattle.rounding.specs.Laws.RootOrder.{nought}
+use Rattle.rounding.specs.Numbers.{IsNum}
+use Rattle.rounding.specs.Numbers.{nought}
 use Rattle.vector.specs.Single.{◌⊖◌, single}
 use Rattle.vector.specs.declared.coords.Point.{Point}
 use Rattle.shape.specs.declared.junction_areas.Gap.{Gap}

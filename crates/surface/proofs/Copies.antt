@@ -11,7 +11,7 @@ use Rattle.shape.specs.declared.refusal.Refusal.{Refusal}
 use Rattle.shape.specs.declared.refusal.Refusal.TheVariants.{ShortOutput}
 use Rattle.shape.specs.declared.refusal.Check.{Check}
 use Rattle.shape.specs.declared.refusal.Check.TheVariants.{Fine, Faulty}
-use Rattle.shape.specs.Laws.Memory.{sets_front}
+use Rattle.shape.proofs.Laws.Memory.{sets_front}
 use Rattle.surface.specs.declared.file.Copied.TheVariants.{Count, Refused}
 use Rattle.surface.specs.File.{copy_of, read_copied}
 

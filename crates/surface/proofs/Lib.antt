@@ -4,3 +4,6 @@ mod Reporting
 mod Singles
 mod Telling
 mod Texts
+pub mod Laws
+pub mod FileExamples
+pub mod ReportExamples

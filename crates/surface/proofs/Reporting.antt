@@ -18,8 +18,8 @@ use Rattle.shape.specs.Gather.{least}
 use Rattle.shape.specs.Lists.{mesh_lists}
 use Rattle.shape.specs.Memory.{Put}
 use Rattle.shape.specs.Refusal.{fine, fault, refuse, Answer, taken, refused, judge, leaves, number_of, place_of, found}
-use Rattle.shape.specs.Laws.Gather.{least_le}
-use Rattle.shape.specs.Laws.Memory.{put_front, put_length}
+use Rattle.shape.proofs.Laws.Gather.{least_le}
+use Rattle.shape.proofs.Laws.Memory.{put_front, put_length}
 use Rattle.lookup.specs.declared.grid.Built.{Built}
 use Rattle.lookup.specs.declared.grid.Built.TheVariants as built
 use Rattle.lookup.specs.Index.{build_of, index_room, answer_to, read_built, index_words}
@@ -35,9 +35,9 @@ use Rattle.surface.specs.Held.{count_kind, vertices_in}
 use Rattle.surface.specs.Text.{digits_of, refused_line}
 use Rattle.surface.specs.Report.{mesh_in, index_in, lines_of, or_refused, report_of, report_answer}
 use Rattle.surface.specs.ReportSteps.{Unpacked, Asked, Says, records_in, surface_text}
-use Rattle.surface.specs.Laws.File.{words_length, whole_file}
-use Rattle.surface.specs.Laws.Text.{refused_size}
-use Rattle.surface.specs.Laws.Report.{kind_most, build_fine, size_refused, built_size, all_taken, records_are, report_taken}
+use Rattle.surface.proofs.Laws.File.{words_length, whole_file}
+use Rattle.surface.proofs.Laws.Text.{refused_size}
+use Rattle.surface.proofs.Laws.Report.{kind_most, build_fine, size_refused, built_size, all_taken, records_are, report_taken}
 use Rattle.surface.proofs.Copies.{sound, faulty, said_short, said_copied}
 use Rattle.surface.proofs.Telling.{records_length}
 

@@ -20,7 +20,7 @@ use Rattle.lookup.specs.declared.sampler.Detail.{Detail}
 use Rattle.lookup.specs.Mesh.{present, corner_of}
 use Rattle.lookup.specs.Cover.{weights_at, lift_of, height_of, smooth_of, blend_of, flat_of, face_up, normal_of}
 use Rattle.lookup.specs.Sampler.{hit, top_of}
-use Rattle.lookup.specs.Laws.Demand3.{hit_true}
+use Rattle.lookup.proofs.Laws.Demand3.{hit_true}
 
 abbrev pub SingleVector : Vector → Type 0
 SingleVector n = T (fits binary32 n.x) × T (fits binary32 n.y) × T (fits binary32 n.z)

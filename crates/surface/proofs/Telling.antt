@@ -13,12 +13,12 @@ use Rattle.vector.specs.declared.coords.Vector.{Vector}
 use Rattle.shape.specs.Gather.{gather}
 use Rattle.shape.specs.Memory.{Put}
 use Rattle.shape.specs.Refusal.{Answer, taken, refused}
-use Rattle.shape.specs.Laws.Gather.{gather_next, gather_even, gather_at, gather_fits}
-use Rattle.shape.specs.Laws.Memory.{put_then, put_turn}
+use Rattle.shape.proofs.Laws.Gather.{gather_next, gather_even, gather_at, gather_fits}
+use Rattle.shape.proofs.Laws.Memory.{put_then, put_turn}
 use Rattle.lookup.specs.declared.sampler.Detail.{Detail}
 use Rattle.lookup.specs.Sampler.{Sample, hit, miss, top_of}
 use Rattle.lookup.specs.Batch.{record_words, record_of}
-use Rattle.lookup.specs.Laws.Batch.{record_width}
+use Rattle.lookup.proofs.Laws.Batch.{record_width}
 use Rattle.surface.specs.declared.held.Sizes.{Sizes}
 use Rattle.surface.specs.declared.report.LineTotals.{LineTotals}
 use Rattle.surface.specs.declared.report.Line.{Line}
@@ -27,9 +27,9 @@ use Rattle.surface.specs.Held.{how_many, count_kind, sizes_of, lane_in, question
 use Rattle.surface.specs.Text.{digits_of, lane_text, found_line, none_line, asked_line}
 use Rattle.surface.specs.Report.{mesh_in, index_in, given, sample_at, answered, line_of, line_at, answered_at, lines_of}
 use Rattle.surface.specs.ReportSteps.{record_in, records_in, Asked, text_of, is_found, LineFits, Tells, Totalled}
-use Rattle.surface.specs.Laws.Held.{how_many_next}
-use Rattle.surface.specs.Laws.Text.{found_size, none_size, asked_size}
-use Rattle.surface.specs.Laws.Report.{kind_most}
+use Rattle.surface.proofs.Laws.Held.{how_many_next}
+use Rattle.surface.proofs.Laws.Text.{found_size, none_size, asked_size}
+use Rattle.surface.proofs.Laws.Report.{kind_most}
 use Rattle.surface.proofs.Singles.{single_height, single_normal}
 
 abbrev to_vector : Float → Float → Float → Vector

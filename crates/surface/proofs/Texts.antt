@@ -9,7 +9,7 @@ use lib.ListN.{length, take, get_or, set}
 use lib.Seq.{take-suc}
 use borrow.Author.Tests.{lt-ltb, le-ltb}
 use Rattle.shape.specs.Memory.{Put}
-use Rattle.shape.specs.Laws.Memory.{put_then}
+use Rattle.shape.proofs.Laws.Memory.{put_then}
 use Rattle.surface.specs.Text.{ascii, digit, digits_of, hex_digit, numbered, lane_text}
 
 pub one_put : (m : List ℕ) (at b : ℕ) → Put m (set m at b) at (b ∷ []) (at + 1)

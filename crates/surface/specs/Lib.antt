@@ -1,10 +1,7 @@
--- The definitions, a file for each part of document 01's "Surface file and `probe`", and the laws about them.
+-- The definitions, a file for each part of document 01's "Surface file and `probe`".
 pub mod File
 pub mod FileSteps
 pub mod Held
 pub mod Text
 pub mod Report
 pub mod ReportSteps
-pub mod FileExamples
-pub mod ReportExamples
-pub mod Laws

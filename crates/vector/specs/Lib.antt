@@ -2,4 +2,3 @@
 pub mod Single
 pub mod Coords
 pub mod Geometry
-pub mod Laws

@@ -1,7 +1,7 @@
 -- `lookup::batch::put_point` meets its contract: the answer there is `sample_in`'s, and its numbers are words. Assumes nothing.
 use Rattle.shape.specs.Lists.{Mesh, mesh_lists}
 use Rattle.lookup.specs.Batch.{record_at}
-use Rattle.lookup.specs.Laws.Batch.{top_words}
+use Rattle.lookup.proofs.Laws.Batch.{top_words}
 use Rattle.std.proofs.Common.{arith, rules}
 use Rattle.lookup.proofs.batch.put_point.Statement.{statement}
 use Rattle.lookup.proofs.batch.put_point.Tie as tie

@@ -3,7 +3,7 @@ use Rattle.std.proofs.Common.{◌≡◌, ℕ, ◌-◌, ◌*◌, ◌/◌, ◌≤�
 use Rattle.shape.specs.Gather.{gather}
 use Rattle.shape.specs.Memory.{Put}
 use Rattle.shape.specs.Refusal.{taken, number_of, place_of}
-use Rattle.shape.specs.Laws.Memory.{put_none, put_turn, put_length}
+use Rattle.shape.proofs.Laws.Memory.{put_none, put_turn, put_length}
 use Rattle.lookup.specs.Sampler.{miss, read_sampled}
 use Rattle.lookup.specs.Batch.{record_words, record_of, read_sampling}
 use Rattle.lookup.specs.Record.{RecordFits}

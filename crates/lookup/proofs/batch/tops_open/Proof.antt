@@ -4,7 +4,7 @@ use Rattle.shape.specs.Gather.{gather}
 use Rattle.shape.specs.Lists.{Mesh, mesh_lists}
 use Rattle.shape.specs.Memory.{Put}
 use Rattle.shape.specs.Refusal.{number_of, place_of}
-use Rattle.shape.specs.Laws.Memory.{put_none, put_turn, put_length}
+use Rattle.shape.proofs.Laws.Memory.{put_none, put_turn, put_length}
 use Rattle.lookup.specs.Batch.{record_words, record_at, records_of, read_sampling}
 use Rattle.lookup.proofs.Batches.{at_next, all_width, count_short, count_all}
 use Rattle.lookup.proofs.batch.tops_open.Statement.{statement}

@@ -2,7 +2,7 @@
 use Rattle.std.proofs.Common.{sym, ◌∙◌, rules}
 use lib.Ieee.{binary32, sub}
 use Rattle.lookup.specs.Column.{col}
-use Rattle.lookup.specs.Laws.Column.{bucket_cut}
+use Rattle.lookup.proofs.Laws.Column.{bucket_cut}
 use Rattle.lookup.proofs.build_fast.col_straight.Statement.{statement}
 use Rattle.lookup.proofs.build_fast.col_straight.Tie as tie
 

@@ -1,8 +1,8 @@
 -- `lookup::consult::cell_in` meets its contract: the four tests are those of `inside`. Assumes nothing.
 use Rattle.std.proofs.Common.{◌+◌, ◌*◌, ◌<◌, ◌≤◌, mul-le-mul, arith, rules}
 use lib.Ieee.{binary32}
-use Rattle.lookup.specs.Laws.Column.{col_lt}
-use Rattle.lookup.specs.Laws.Heads.{cell_in, cell_left, cell_right, cell_low, cell_high}
+use Rattle.lookup.proofs.Laws.Column.{col_lt}
+use Rattle.lookup.proofs.Laws.Heads.{cell_in, cell_left, cell_right, cell_low, cell_high}
 use Rattle.lookup.proofs.Fronts.{min_x_is, min_y_is, max_x_is, max_y_is, cell_is, cell_few}
 use Rattle.lookup.proofs.consult.cell_in.Statement.{statement}
 use Rattle.lookup.proofs.consult.cell_in.Tie as tie

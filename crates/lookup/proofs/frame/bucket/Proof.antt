@@ -1,7 +1,7 @@
 -- `lookup::frame::bucket` meets its contract: neither the floor nor the tests for a NaN and for a negative number change the column. Assumes nothing.
 use Rattle.std.proofs.Common.{sym, ◌∙◌, rules}
 use lib.Ieee.{binary32}
-use Rattle.lookup.specs.Laws.Column.{bucket_cut}
+use Rattle.lookup.proofs.Laws.Column.{bucket_cut}
 use Rattle.lookup.proofs.frame.bucket.Statement.{statement}
 use Rattle.lookup.proofs.frame.bucket.Tie as tie
 

@@ -1,6 +1,6 @@
 -- `lookup::lane::lane_of` meets its contract: the span found and its start pick the case of `lane_of`. Assumes nothing.
 use Rattle.std.proofs.Common.{arith, rules}
-use Rattle.lookup.specs.Laws.Spans.{lane_of_span, lane_before, lane_past}
+use Rattle.lookup.proofs.Laws.Spans.{lane_of_span, lane_before, lane_past}
 use Rattle.lookup.proofs.lane.lane_of.Statement.{statement}
 use Rattle.lookup.proofs.lane.lane_of.Tie as tie
 

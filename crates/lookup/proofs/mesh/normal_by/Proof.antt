@@ -4,7 +4,7 @@ use lib.Ieee.{Float}
 use Rattle.lookup.specs.declared.mesh.Weights.{Weights}
 use Rattle.lookup.specs.Cover.{face_up, blend_of, normal_of}
 use Rattle.lookup.specs.Sixteen.{Weighs}
-use Rattle.lookup.specs.Laws.Plain.{present_below}
+use Rattle.lookup.proofs.Laws.Plain.{present_below}
 use Rattle.lookup.proofs.mesh.normal_by.Statement.{statement}
 use Rattle.lookup.proofs.mesh.normal_by.Tie as tie
 

@@ -6,7 +6,7 @@ use Rattle.vector.specs.declared.coords.Point.{Point}
 use Rattle.lookup.specs.declared.mesh.Fetch.TheVariants.{Corners, Missing}
 use Rattle.lookup.specs.Mesh.{corners_of}
 use Rattle.lookup.specs.Cover.{weights_of, face_up, flat_of, blend_of, normal_of}
-use Rattle.lookup.specs.Laws.Plain.{present_below}
+use Rattle.lookup.proofs.Laws.Plain.{present_below}
 use Rattle.lookup.proofs.Turns.{there, missing, weights_are}
 use Rattle.lookup.proofs.mesh.normal_of.Statement.{statement}
 use Rattle.lookup.proofs.mesh.normal_of.Tie as tie

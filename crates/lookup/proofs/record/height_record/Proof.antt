@@ -2,7 +2,7 @@
 use Rattle.std.proofs.Common.{sym, ap, ◌∙◌, rules}
 use Rattle.shape.specs.Lists.{Mesh, mesh_lists}
 use Rattle.lookup.specs.Record.{plain_sample}
-use Rattle.lookup.specs.Laws.Batch.{plain_words}
+use Rattle.lookup.proofs.Laws.Batch.{plain_words}
 use Rattle.lookup.proofs.record.height_record.Statement.{statement}
 use Rattle.lookup.proofs.record.height_record.Tie as tie
 

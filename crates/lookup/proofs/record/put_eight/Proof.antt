@@ -1,5 +1,5 @@
 -- `lookup::record::put_eight` meets its contract. Assumes nothing.
-use Rattle.shape.specs.Laws.Memory.{put_then}
+use Rattle.shape.proofs.Laws.Memory.{put_then}
 use Rattle.std.proofs.Common.{rules}
 use Rattle.lookup.proofs.record.put_eight.Statement.{statement}
 use Rattle.lookup.proofs.record.put_eight.Tie as tie

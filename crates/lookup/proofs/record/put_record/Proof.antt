@@ -10,7 +10,7 @@ use Rattle.lookup.specs.declared.sampler.Sampled.TheVariants.{Found, Refused}
 use Rattle.lookup.specs.Sampler.{read_sampled}
 use Rattle.lookup.specs.Batch.{lane_id, word_for, record_of}
 use Rattle.lookup.specs.Record.{RecordFits}
-use Rattle.lookup.specs.Laws.Batch.{word_is}
+use Rattle.lookup.proofs.Laws.Batch.{word_is}
 use Rattle.lookup.proofs.record.put_record.Statement.{statement}
 use Rattle.lookup.proofs.record.put_record.Tie as tie
 

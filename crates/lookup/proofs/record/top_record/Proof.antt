@@ -1,7 +1,7 @@
 -- `lookup::record::top_record` meets its contract: the indexed lookup's answer as a record. Assumes nothing.
 use Rattle.std.proofs.Common.{sym, ◌∙◌, arith, rules}
 use Rattle.shape.specs.Lists.{Mesh, mesh_lists}
-use Rattle.lookup.specs.Laws.Batch.{taken_words}
+use Rattle.lookup.proofs.Laws.Batch.{taken_words}
 use Rattle.lookup.proofs.record.top_record.Statement.{statement}
 use Rattle.lookup.proofs.record.top_record.Tie as tie
 

@@ -2,7 +2,7 @@
 use Rattle.std.proofs.Common.{◌≡◌, ℕ, List, ◌∙◌, rules}
 use Rattle.shape.specs.Refusal.{fine, found, refuse, or_else}
 use Rattle.shape.specs.Lists.{Mesh, mesh_lists, longer, mesh_limits, mesh_ragged}
-use Rattle.shape.specs.Laws.Refusal.{else_assoc, else_faulty, else_fine}
+use Rattle.shape.proofs.Laws.Refusal.{else_assoc, else_faulty, else_fine}
 use Rattle.lookup.specs.Sampler.{top_fault}
 use Rattle.lookup.proofs.sampler.top_fault.Statement.{statement}
 use Rattle.lookup.proofs.sampler.top_fault.Tie as tie

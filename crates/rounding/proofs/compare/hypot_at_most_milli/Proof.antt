@@ -2,8 +2,8 @@
 use Rattle.std.proofs.Common.{rules}
 use lib.Ieee.{of_bits, le}
 use Rattle.rounding.specs.Hypot.{squares_of}
-use Rattle.rounding.specs.Laws.RootOrder.{nought}
-use Rattle.rounding.specs.Laws.RootTest.{reached, missed}
+use Rattle.rounding.specs.Numbers.{nought}
+use Rattle.rounding.proofs.Laws.RootTest.{reached, missed}
 use Rattle.rounding.proofs.Length.{at_most_milli}
 use Rattle.rounding.proofs.compare.hypot_at_most_milli.Statement.{statement}
 use Rattle.rounding.proofs.compare.hypot_at_most_milli.Tie as tie

@@ -2,8 +2,8 @@
 use Rattle.std.proofs.Common.{T, sym, subst}
 use lib.Ieee.{binary32, of_bits, lt}
 use Rattle.rounding.specs.Thresholds.{tenth}
-use Rattle.rounding.specs.Laws.RootTest.{as_it_is, above, edge}
-use Rattle.rounding.specs.Laws.Thresholds.{passes_tenth}
+use Rattle.rounding.proofs.Laws.RootTest.{as_it_is, above, edge}
+use Rattle.rounding.proofs.Laws.Thresholds.{passes_tenth}
 use Rattle.rounding.proofs.compare.root_above_tenth.Statement.{statement}
 use Rattle.rounding.proofs.compare.root_above_tenth.Tie as tie
 

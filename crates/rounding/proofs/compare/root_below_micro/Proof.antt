@@ -3,9 +3,9 @@ use Rattle.std.proofs.Common.{◌≡◌, not, ◌&&◌, T, sym, subst}
 use lib.Ieee.{binary32, of_bits, le, lt}
 use Rattle.rounding.specs.Root.{sqrt_of}
 use Rattle.rounding.specs.Thresholds.{micro}
-use Rattle.rounding.specs.Laws.RootOrder.{nought}
-use Rattle.rounding.specs.Laws.RootTest.{as_it_is, root_below, reached, missed}
-use Rattle.rounding.specs.Laws.Thresholds.{reaches_micro}
+use Rattle.rounding.specs.Numbers.{nought}
+use Rattle.rounding.proofs.Laws.RootTest.{as_it_is, root_below, reached, missed}
+use Rattle.rounding.proofs.Laws.Thresholds.{reaches_micro}
 use Rattle.rounding.proofs.compare.root_below_micro.Statement.{statement}
 use Rattle.rounding.proofs.compare.root_below_micro.Tie as tie
 

@@ -1,7 +1,7 @@
 -- `rounding::count::count64` meets its contract: the branches are those of the cast. Assumes nothing.
 use Rattle.std.proofs.Common.{rules}
 use lib.Ieee.{of_bits}
-use Rattle.rounding.specs.Laws.Order.{T_of}
+use Rattle.rounding.proofs.Laws.Order.{T_of}
 use Rattle.rounding.proofs.Counting.{above_minus_one, count_most, count_none}
 use Rattle.rounding.proofs.count.count64.Statement.{statement}
 use Rattle.rounding.proofs.count.count64.Tie as tie

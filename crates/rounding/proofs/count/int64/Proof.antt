@@ -1,7 +1,7 @@
 -- `rounding::count::int64` meets its contract: the branches are those of the cast. Assumes nothing.
 use Rattle.std.proofs.Common.{rules}
 use lib.Ieee.{of_bits, neg}
-use Rattle.rounding.specs.Laws.Order.{T_of}
+use Rattle.rounding.proofs.Laws.Order.{T_of}
 use Rattle.rounding.proofs.Counting.{int_most, int_least, int_nan}
 use Rattle.rounding.proofs.count.int64.Statement.{statement}
 use Rattle.rounding.proofs.count.int64.Tie as tie

@@ -2,7 +2,7 @@
 use Rattle.std.proofs.Common.{◌≡◌, ℕ, ◌+◌, ◌*◌, ◌/◌, ◌%◌, ◌^◌, ◌<◌, ◌≤◌, Bool, cond, not, T, leb, sym, refl, ap, ◌∙◌, subst, arith}
 use lib.Ieee.Bits.{to_bits-lt}
 use lib.Ieee.{binary32, binary64, fits, to_bits, of_bits, ones, hid, top, nan_bits, div}
-use Rattle.rounding.specs.Laws.Order.{nan_of_differs}
+use Rattle.rounding.proofs.Laws.Order.{nan_of_differs}
 use Rattle.rounding.proofs.Fields.{no_nan}
 use Rattle.rounding.proofs.Sign.{sized, sized_lt, is_inf}
 use Rattle.rounding.proofs.Words.{masked, sign_wide, sign_le, inf_signed}

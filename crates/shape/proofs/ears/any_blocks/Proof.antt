@@ -2,7 +2,7 @@
 use Rattle.std.proofs.Common.{◌≡◌, ◌-◌, ◌≤◌, false, length, sym, refl, arith, rules}
 use Rattle.shape.specs.Gather.{any}
 use Rattle.shape.specs.Ears.{blocks_at}
-use Rattle.shape.specs.Laws.Gather.{any_next, any_some}
+use Rattle.shape.proofs.Laws.Gather.{any_next, any_some}
 use Rattle.shape.proofs.ears.any_blocks.Statement.{statement}
 use Rattle.shape.proofs.ears.any_blocks.Tie as tie
 

@@ -2,7 +2,7 @@
 use Rattle.std.proofs.Common.{not, ◌&&◌, eqb, rules}
 use Rattle.shape.specs.Lists.{point_at}
 use Rattle.shape.specs.Ears.{inside, blocks}
-use Rattle.shape.specs.Laws.Ears.{and_first, and_none}
+use Rattle.shape.proofs.Laws.Ears.{and_first, and_none}
 use Rattle.shape.proofs.ears.blocks_it.Statement.{statement}
 use Rattle.shape.proofs.ears.blocks_it.Tie as tie
 

@@ -2,8 +2,8 @@
 use Rattle.std.proofs.Common.{◌≡◌, ℕ, ◌/◌, length, take, arith, rules}
 use lib.ListN.{length-replicate}
 use Rattle.shape.specs.Ears.{up_to, ears_of}
-use Rattle.shape.specs.Laws.Memory.{put_front, put_length}
-use Rattle.shape.specs.Laws.Ears.{within_up_to}
+use Rattle.shape.proofs.Laws.Memory.{put_front, put_length}
+use Rattle.shape.proofs.Laws.Ears.{within_up_to}
 use Rattle.shape.proofs.ears.clip.Statement.{statement}
 use Rattle.shape.proofs.ears.clip.Tie as tie
 

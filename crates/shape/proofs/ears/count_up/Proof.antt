@@ -3,7 +3,7 @@ use Rattle.std.proofs.Common.{◌≡◌, ◌-◌, ◌≤◌, [], ◌∷◌, refl
 use Rattle.shape.specs.Gather.{gather}
 use Rattle.shape.specs.Memory.{Put}
 use Rattle.shape.specs.Ears.{up_to}
-use Rattle.shape.specs.Laws.Memory.{put_none, put_turn, put_length}
+use Rattle.shape.proofs.Laws.Memory.{put_none, put_turn, put_length}
 use Rattle.shape.proofs.ears.count_up.Statement.{statement}
 use Rattle.shape.proofs.ears.count_up.Tie as tie
 

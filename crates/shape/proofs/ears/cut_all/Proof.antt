@@ -1,7 +1,7 @@
 -- `shape::ears::cut_all` meets its contract: what is put, with the ears of the points left, is all. Assumes nothing.
 use Rattle.std.proofs.Common.{sym, ◌∙◌, arith, length-take-le}
-use Rattle.shape.specs.Laws.Memory.{put_length}
-use Rattle.shape.specs.Laws.Ears.{Cutting, cut_start, cut_stop, cut_more, cut_finish}
+use Rattle.shape.proofs.Laws.Memory.{put_length}
+use Rattle.shape.proofs.Laws.Ears.{Cutting, cut_start, cut_stop, cut_more, cut_finish}
 use Rattle.shape.proofs.ears.cut_all.Statement.{statement}
 use Rattle.shape.proofs.ears.cut_all.Tie as tie
 

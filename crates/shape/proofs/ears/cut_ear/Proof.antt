@@ -1,6 +1,6 @@
 -- `shape::ears::cut_ear` meets its contract. Assumes nothing.
 use Rattle.std.proofs.Common.{sym, arith, length-take-le, rules}
-use Rattle.shape.specs.Laws.Ears.{cut_nothing, cut_did}
+use Rattle.shape.proofs.Laws.Ears.{cut_nothing, cut_did}
 use Rattle.shape.proofs.ears.cut_ear.Statement.{statement}
 use Rattle.shape.proofs.ears.cut_ear.Tie as tie
 

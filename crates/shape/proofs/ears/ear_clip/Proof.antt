@@ -3,8 +3,8 @@ use Rattle.std.proofs.Common.{◌≡◌, ℕ, ◌/◌, length, ap, ◌∙◌, ze
 use lib.ListN.{length-replicate}
 use Rattle.shape.specs.Refusal.{taken, refused, number_of, place_of}
 use Rattle.shape.specs.Ears.{ears_of, read_ears}
-use Rattle.shape.specs.Laws.Memory.{put_length}
-use Rattle.shape.specs.Laws.Ears.{stays, fills, ring_oversize, ring_ragged, ears_short, ears_taken, ears_copied, ears_few}
+use Rattle.shape.proofs.Laws.Memory.{put_length}
+use Rattle.shape.proofs.Laws.Ears.{stays, fills, ring_oversize, ring_ragged, ears_short, ears_taken, ears_copied, ears_few}
 use Rattle.shape.proofs.ears.ear_clip.Statement.{statement}
 use Rattle.shape.proofs.ears.ear_clip.Tie as tie
 

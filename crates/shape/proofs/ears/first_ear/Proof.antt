@@ -2,8 +2,8 @@
 use Rattle.std.proofs.Common.{◌≡◌, ◌-◌, ◌≤◌, false, length, sym, refl, ◌∙◌, arith}
 use Rattle.shape.specs.Gather.{any}
 use Rattle.shape.specs.Ears.{is_ear, first_ear}
-use Rattle.shape.specs.Laws.Gather.{any_none, any_next}
-use Rattle.shape.specs.Laws.Gather.{least_at, least_none}
+use Rattle.shape.proofs.Laws.Gather.{any_none, any_next}
+use Rattle.shape.proofs.Laws.Gather.{least_at, least_none}
 use Rattle.shape.proofs.ears.first_ear.Statement.{statement}
 use Rattle.shape.proofs.ears.first_ear.Tie as tie
 

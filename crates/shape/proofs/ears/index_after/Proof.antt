@@ -1,5 +1,5 @@
 -- `shape::ears::index_after` meets its contract. Assumes nothing.
-use Rattle.shape.specs.Laws.Ears.{after_last, after_rest}
+use Rattle.shape.proofs.Laws.Ears.{after_last, after_rest}
 use Rattle.std.proofs.Common.{arith, rules}
 use Rattle.shape.proofs.ears.index_after.Statement.{statement}
 use Rattle.shape.proofs.ears.index_after.Tie as tie

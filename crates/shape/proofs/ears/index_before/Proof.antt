@@ -1,5 +1,5 @@
 -- `shape::ears::index_before` meets its contract. Assumes nothing.
-use Rattle.shape.specs.Laws.Ears.{before_first, before_rest}
+use Rattle.shape.proofs.Laws.Ears.{before_first, before_rest}
 use Rattle.std.proofs.Common.{arith, rules}
 use Rattle.shape.proofs.ears.index_before.Statement.{statement}
 use Rattle.shape.proofs.ears.index_before.Tie as tie

@@ -2,7 +2,7 @@
 use lib.Ieee.{le}
 use Rattle.vector.specs.Single.{0f}
 use Rattle.shape.specs.Ears.{cross, inside}
-use Rattle.shape.specs.Laws.Ears.{and_last, and_left, and_right}
+use Rattle.shape.proofs.Laws.Ears.{and_last, and_left, and_right}
 use Rattle.std.proofs.Common.{rules}
 use Rattle.shape.proofs.ears.is_inside.Statement.{statement}
 use Rattle.shape.proofs.ears.is_inside.Tie as tie

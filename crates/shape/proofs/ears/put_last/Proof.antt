@@ -1,7 +1,7 @@
 -- `shape::ears::put_last` meets its contract: the tests that led to each return. Assumes nothing.
 use Rattle.std.proofs.Common.{arith, rules}
-use Rattle.shape.specs.Laws.Memory.{put_none}
-use Rattle.shape.specs.Laws.Ears.{last_other, last_some, last_flat}
+use Rattle.shape.proofs.Laws.Memory.{put_none}
+use Rattle.shape.proofs.Laws.Ears.{last_other, last_some, last_flat}
 use Rattle.shape.proofs.ears.put_last.Statement.{statement}
 use Rattle.shape.proofs.ears.put_last.Tie as tie
 

@@ -1,6 +1,6 @@
 -- `shape::ears::remove` meets its contract: those from k up to i are moved down. Assumes nothing.
 use Rattle.std.proofs.Common.{◌≡◌, ◌-◌, ◌<◌, ◌≤◌, length, ap, ◌∙◌, arith}
-use Rattle.shape.specs.Laws.Ears.{moved, moved_none, moved_next, moved_length, moved_all}
+use Rattle.shape.proofs.Laws.Ears.{moved, moved_none, moved_next, moved_length, moved_all}
 use Rattle.shape.proofs.ears.remove.Statement.{statement}
 use Rattle.shape.proofs.ears.remove.Tie as tie
 

@@ -1,7 +1,7 @@
 -- `shape::junction::count_vertices` meets its contract: the vertices of the first k ears. Assumes nothing.
 use Rattle.std.proofs.Common.{◌≡◌, ◌-◌, ◌*◌, ◌/◌, ◌≤◌, length, refl, arith}
 use Rattle.shape.specs.JunctionMesh.{sum_of, ear_vertices, vertex_count}
-use Rattle.shape.specs.Laws.JunctionMesh.{square_few, sum_next, vertices_of_ear}
+use Rattle.shape.proofs.Laws.JunctionMesh.{square_few, sum_next, vertices_of_ear}
 use Rattle.shape.proofs.junction.count_vertices.Statement.{statement}
 use Rattle.shape.proofs.junction.count_vertices.Tie as tie
 

@@ -1,6 +1,6 @@
 -- `shape::junction::ear_at` meets its contract. Assumes nothing.
 use Rattle.std.proofs.Common.{◌+◌, ◌*◌, arith, rules}
-use Rattle.shape.specs.Laws.JunctionMesh.{ear_cut_lem}
+use Rattle.shape.proofs.Laws.JunctionMesh.{ear_cut_lem}
 use Rattle.shape.proofs.junction.ear_at.Statement.{statement}
 use Rattle.shape.proofs.junction.ear_at.Tie as tie
 

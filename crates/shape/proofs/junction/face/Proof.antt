@@ -1,6 +1,6 @@
 -- `shape::junction::face` meets its contract. Assumes nothing.
 use Rattle.vector.specs.Coords.{up_vector}
-use Rattle.shape.specs.Laws.JunctionMesh.{face_downward, face_upward}
+use Rattle.shape.proofs.Laws.JunctionMesh.{face_downward, face_upward}
 use Rattle.std.proofs.Common.{rules}
 use Rattle.shape.proofs.junction.face.Statement.{statement}
 use Rattle.shape.proofs.junction.face.Tie as tie

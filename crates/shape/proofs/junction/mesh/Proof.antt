@@ -2,8 +2,8 @@
 use Rattle.std.proofs.Common.{[], ◌∙◌, rules}
 use Rattle.shape.specs.Lists.{mesh_lists}
 use Rattle.shape.specs.JunctionMesh.{ground}
-use Rattle.shape.specs.Laws.Refusal.{none_told}
-use Rattle.shape.specs.Laws.JunctionMesh.{ground_stays, ground_turned_back, ground_goes_on}
+use Rattle.shape.proofs.Laws.Refusal.{none_told}
+use Rattle.shape.proofs.Laws.JunctionMesh.{ground_stays, ground_turned_back, ground_goes_on}
 use Rattle.shape.proofs.Surveys.{input_seen, input_limits}
 use Rattle.shape.proofs.junction.mesh.Statement.{statement}
 use Rattle.shape.proofs.junction.mesh.Tie as tie

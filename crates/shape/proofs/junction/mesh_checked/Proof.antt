@@ -4,9 +4,9 @@ use lib.ListN.{length-replicate}
 use Rattle.shape.specs.Lists.{mesh_lists}
 use Rattle.shape.specs.Ears.{ears_of}
 use Rattle.shape.specs.JunctionMesh.{ground}
-use Rattle.shape.specs.Laws.Memory.{put_front, put_length}
-use Rattle.shape.specs.Laws.Ears.{ears_few, ears_within}
-use Rattle.shape.specs.Laws.JunctionMesh.{many_of, ground_refused, ground_taken, ground_fits, ground_left, ground_stays}
+use Rattle.shape.proofs.Laws.Memory.{put_front, put_length}
+use Rattle.shape.proofs.Laws.Ears.{ears_few, ears_within}
+use Rattle.shape.proofs.Laws.JunctionMesh.{many_of, ground_refused, ground_taken, ground_fits, ground_left, ground_stays}
 use Rattle.shape.proofs.junction.mesh_checked.Statement.{statement}
 use Rattle.shape.proofs.junction.mesh_checked.Tie as tie
 

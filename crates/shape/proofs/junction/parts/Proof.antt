@@ -1,6 +1,6 @@
 -- `shape::junction::parts` meets its contract. Assumes nothing.
 use Rattle.shape.specs.JunctionMesh.{parts_of}
-use Rattle.shape.specs.Laws.JunctionMesh.{parts_few}
+use Rattle.shape.proofs.Laws.JunctionMesh.{parts_few}
 use Rattle.std.proofs.Common.{rules}
 use Rattle.shape.proofs.junction.parts.Statement.{statement}
 use Rattle.shape.proofs.junction.parts.Tie as tie

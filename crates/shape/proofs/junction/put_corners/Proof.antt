@@ -1,6 +1,6 @@
 -- `shape::junction::put_corners` meets its contract. Assumes nothing.
 use Rattle.shape.specs.JunctionMesh.{corner_coords}
-use Rattle.shape.specs.Laws.Memory.{put_then}
+use Rattle.shape.proofs.Laws.Memory.{put_then}
 use Rattle.std.proofs.Common.{rules}
 use Rattle.shape.proofs.junction.put_corners.Statement.{statement}
 use Rattle.shape.proofs.junction.put_corners.Tie as tie

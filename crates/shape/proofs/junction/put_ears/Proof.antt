@@ -4,8 +4,8 @@ use Rattle.vector.specs.declared.coords.Point.{Point}
 use Rattle.shape.specs.Gather.{gather}
 use Rattle.shape.specs.Memory.{Put}
 use Rattle.shape.specs.JunctionMesh.{lift_of, spacing_of, corner_coords, face_normals, ear_cut, ear_mesh, ears_mesh, sum_of, ear_vertices, vertex_count}
-use Rattle.shape.specs.Laws.Memory.{put_none, put_length, put_turn}
-use Rattle.shape.specs.Laws.JunctionMesh.{corners_nine, ears_length, sum_fits, vertices_of_ear}
+use Rattle.shape.proofs.Laws.Memory.{put_none, put_length, put_turn}
+use Rattle.shape.proofs.Laws.JunctionMesh.{corners_nine, ears_length, sum_fits, vertices_of_ear}
 use Rattle.shape.proofs.junction.put_ears.Statement.{statement}
 use Rattle.shape.proofs.junction.put_ears.Tie as tie
 

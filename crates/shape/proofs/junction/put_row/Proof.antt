@@ -5,8 +5,8 @@ use Rattle.vector.specs.declared.coords.Point.{Point}
 use Rattle.shape.specs.Gather.{gather}
 use Rattle.shape.specs.Memory.{Put}
 use Rattle.shape.specs.JunctionMesh.{lattice, lift_of, corner_coords, face_normals, cell_of}
-use Rattle.shape.specs.Laws.Memory.{put_none, put_length}
-use Rattle.shape.specs.Laws.JunctionMesh.{corners_nine, row_turn, row_end}
+use Rattle.shape.proofs.Laws.Memory.{put_none, put_length}
+use Rattle.shape.proofs.Laws.JunctionMesh.{corners_nine, row_turn, row_end}
 use Rattle.shape.proofs.junction.put_row.Statement.{statement}
 use Rattle.shape.proofs.junction.put_row.Tie as tie
 

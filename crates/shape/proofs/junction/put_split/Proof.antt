@@ -4,8 +4,8 @@ use Rattle.vector.specs.declared.coords.Point.{Point}
 use Rattle.shape.specs.Gather.{gather}
 use Rattle.shape.specs.Memory.{Put}
 use Rattle.shape.specs.JunctionMesh.{lattice, lift_of, corner_coords, face_normals, row_of, split_of, ear_mesh}
-use Rattle.shape.specs.Laws.Memory.{put_none, put_length, put_turn}
-use Rattle.shape.specs.Laws.JunctionMesh.{corners_nine, rows_length, square_room}
+use Rattle.shape.proofs.Laws.Memory.{put_none, put_length, put_turn}
+use Rattle.shape.proofs.Laws.JunctionMesh.{corners_nine, rows_length, square_room}
 use Rattle.shape.proofs.junction.put_split.Statement.{statement}
 use Rattle.shape.proofs.junction.put_split.Tie as tie
 

@@ -1,5 +1,5 @@
 -- `shape::junction::put_thrice` meets its contract. Assumes nothing.
-use Rattle.shape.specs.Laws.Memory.{put_then}
+use Rattle.shape.proofs.Laws.Memory.{put_then}
 use Rattle.std.proofs.Common.{rules}
 use Rattle.shape.proofs.junction.put_thrice.Statement.{statement}
 use Rattle.shape.proofs.junction.put_thrice.Tie as tie

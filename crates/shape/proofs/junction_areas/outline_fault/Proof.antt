@@ -1,6 +1,6 @@
 -- `shape::junction_areas::outline_fault` meets its contract: the limits tell, or else what is ragged. Assumes nothing.
 use Rattle.shape.specs.Outline.{outline_fault}
-use Rattle.shape.specs.Laws.Refusal.{else_faulty, else_fine, none_told}
+use Rattle.shape.proofs.Laws.Refusal.{else_faulty, else_fine, none_told}
 use Rattle.shape.proofs.Joining.{few_segments}
 use Rattle.std.proofs.Common.{rules}
 use Rattle.shape.proofs.junction_areas.outline_fault.Statement.{statement}

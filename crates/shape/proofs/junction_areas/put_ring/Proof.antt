@@ -5,7 +5,7 @@ use Rattle.shape.specs.Gather.{gather}
 use Rattle.shape.specs.Memory.{Put}
 use Rattle.shape.specs.Lists.{point_at}
 use Rattle.shape.specs.Outline.{place_from, flat, reversed_at, reversed}
-use Rattle.shape.specs.Laws.Memory.{put_none, put_then}
+use Rattle.shape.proofs.Laws.Memory.{put_none, put_then}
 use Rattle.shape.proofs.Joining.{flat_length, flat_count, flat_at, reversed_next}
 use Rattle.shape.proofs.junction_areas.put_ring.Statement.{statement}
 use Rattle.shape.proofs.junction_areas.put_ring.Tie as tie

@@ -2,7 +2,7 @@
 use Rattle.std.proofs.Common.{◌≡◌, ◌-◌, ◌≤◌, refl, arith, rules}
 use Rattle.shape.specs.Gather.{any}
 use Rattle.shape.specs.Lists.{run_long}
-use Rattle.shape.specs.Laws.Gather.{any_next}
+use Rattle.shape.proofs.Laws.Gather.{any_next}
 use Rattle.shape.proofs.lists.any_long.Statement.{statement}
 use Rattle.shape.proofs.lists.any_long.Tie as tie
 

@@ -1,7 +1,7 @@
 -- `shape::lists::far_word` meets its contract: what the tests turn away lies past the list. Assumes nothing.
 use Rattle.std.proofs.Common.{◌≡◌, ◌+◌, ◌*◌, ◌<◌, ◌≤◌, length, div-lt_iff_lt-mul, mul-zero, le-div_iff_mul-le, zero-add, arith, rules}
 use Rattle.shape.specs.Lists.{word_of}
-use Rattle.shape.specs.Laws.Lists.{word_past}
+use Rattle.shape.proofs.Laws.Lists.{word_past}
 use Rattle.shape.proofs.lists.far_word.Statement.{statement}
 use Rattle.shape.proofs.lists.far_word.Tie as tie
 

@@ -1,7 +1,7 @@
 -- `shape::lists::last_end` meets its contract. Assumes nothing.
 use Rattle.std.proofs.Common.{◌∙◌, rules}
 use Rattle.shape.specs.Lists.{last_end}
-use Rattle.shape.specs.Laws.Lists.{last_end_lem}
+use Rattle.shape.proofs.Laws.Lists.{last_end_lem}
 use Rattle.shape.proofs.lists.last_end.Statement.{statement}
 use Rattle.shape.proofs.lists.last_end.Tie as tie
 

@@ -1,6 +1,6 @@
 -- `shape::lists::mesh_fault` meets its contract: the limits tell, or else what is ragged. Assumes nothing.
 use Rattle.shape.specs.Lists.{mesh_fault}
-use Rattle.shape.specs.Laws.Refusal.{else_faulty, else_fine}
+use Rattle.shape.proofs.Laws.Refusal.{else_faulty, else_fine}
 use Rattle.std.proofs.Common.{rules}
 use Rattle.shape.proofs.lists.mesh_fault.Statement.{statement}
 use Rattle.shape.proofs.lists.mesh_fault.Tie as tie

@@ -1,6 +1,6 @@
 -- `shape::lists::part` meets its contract: both ends are brought into the list. Assumes nothing.
 use Rattle.std.proofs.Common.{rules}
-use Rattle.shape.specs.Laws.Lists.{part_cut}
+use Rattle.shape.proofs.Laws.Lists.{part_cut}
 use Rattle.shape.proofs.lists.part.Statement.{statement}
 use Rattle.shape.proofs.lists.part.Tie as tie
 

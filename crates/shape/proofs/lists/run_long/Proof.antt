@@ -1,6 +1,6 @@
 -- `shape::lists::run_long` meets its contract. Assumes nothing.
 use Rattle.shape.specs.Lists.{start_of, end_of, run_long}
-use Rattle.shape.specs.Laws.Lists.{without_difference}
+use Rattle.shape.proofs.Laws.Lists.{without_difference}
 use Rattle.std.proofs.Common.{rules}
 use Rattle.shape.proofs.lists.run_long.Statement.{statement}
 use Rattle.shape.proofs.lists.run_long.Tie as tie

@@ -2,7 +2,7 @@
 use Rattle.std.proofs.Common.{sym, rules}
 use lib.ListN.{get_or-eq_default}
 use lib.Ieee.{nan}
-use Rattle.shape.specs.Laws.Lists.{get_d_any}
+use Rattle.shape.proofs.Laws.Lists.{get_d_any}
 use Rattle.shape.proofs.lists.single_or.Statement.{statement}
 use Rattle.shape.proofs.lists.single_or.Tie as tie
 

@@ -1,6 +1,6 @@
 -- `shape::memory::room_fault` meets its contract. Assumes nothing.
 use Rattle.shape.specs.MeshMemory.{room_fault}
-use Rattle.shape.specs.Laws.MeshMemory.{fault_first, fault_then}
+use Rattle.shape.proofs.Laws.MeshMemory.{fault_first, fault_then}
 use Rattle.std.proofs.Common.{rules}
 use Rattle.shape.proofs.memory.room_fault.Statement.{statement}
 use Rattle.shape.proofs.memory.room_fault.Tie as tie

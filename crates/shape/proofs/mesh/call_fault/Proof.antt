@@ -2,7 +2,7 @@
 use Rattle.std.proofs.Common.{sym, ap, ◌∙◌, rules}
 use Rattle.shape.specs.Refusal.{found}
 use Rattle.shape.specs.SurfaceMesh.{call_fault}
-use Rattle.shape.specs.Laws.MeshMemory.{fault_first, fault_then}
+use Rattle.shape.proofs.Laws.MeshMemory.{fault_first, fault_then}
 use Rattle.shape.proofs.mesh.call_fault.Statement.{statement}
 use Rattle.shape.proofs.mesh.call_fault.Tie as tie
 

@@ -1,6 +1,6 @@
 -- `shape::mesh::input_fault` meets its contract. Assumes nothing.
 use Rattle.shape.specs.SurfaceMesh.{input_fault}
-use Rattle.shape.specs.Laws.MeshMemory.{fault_first, fault_then}
+use Rattle.shape.proofs.Laws.MeshMemory.{fault_first, fault_then}
 use Rattle.std.proofs.Common.{rules}
 use Rattle.shape.proofs.mesh.input_fault.Statement.{statement}
 use Rattle.shape.proofs.mesh.input_fault.Tie as tie

@@ -6,7 +6,7 @@ use Rattle.shape.specs.Gather.{gather}
 use Rattle.shape.specs.Lists.{run_long}
 use Rattle.shape.specs.SurfaceMesh.{given}
 use Rattle.shape.specs.MeshSteps.{Enough}
-use Rattle.shape.specs.Laws.Gather.{any_none}
+use Rattle.shape.proofs.Laws.Gather.{any_none}
 use Rattle.shape.proofs.Meshing.{next_enough}
 use Rattle.shape.proofs.mesh.most_sizes.Statement.{statement}
 use Rattle.shape.proofs.mesh.most_sizes.Tie as tie

@@ -4,8 +4,8 @@ use Rattle.shape.specs.Gather.{gather}
 use Rattle.shape.specs.Lists.{run_long}
 use Rattle.shape.specs.SurfaceMesh.{given}
 use Rattle.shape.specs.MeshSteps.{Written}
-use Rattle.shape.specs.Laws.Gather.{any_none}
-use Rattle.shape.specs.Laws.Memory.{put_none, put_length}
+use Rattle.shape.proofs.Laws.Gather.{any_none}
+use Rattle.shape.proofs.Laws.Memory.{put_none, put_length}
 use Rattle.shape.proofs.Strips.{blank_length}
 use Rattle.shape.proofs.Meshing.{room_at, next_written}
 use Rattle.shape.proofs.mesh.put_lanes.Statement.{statement}

@@ -5,7 +5,7 @@ use Rattle.shape.specs.Gather.{gather}
 use Rattle.shape.specs.Lists.{run_long}
 use Rattle.shape.specs.SurfaceMesh.{Given, given}
 use Rattle.shape.specs.MeshSteps.{Sizes}
-use Rattle.shape.specs.Laws.Gather.{any_none}
+use Rattle.shape.proofs.Laws.Gather.{any_none}
 use Rattle.shape.proofs.Strips.{blank_length}
 use Rattle.shape.proofs.Meshing.{next_sizes}
 use Rattle.shape.proofs.mesh.totals.Statement.{statement}

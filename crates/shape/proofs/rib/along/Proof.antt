@@ -2,10 +2,10 @@
 use Rattle.std.proofs.Common.{ap, ◌∙◌, subst, rules}
 use lib.Ieee.{Float, of_bits}
 use Rattle.rounding.specs.Root.{PositiveRoot}
-use Rattle.rounding.specs.Laws.NearOne.{near_positive}
+use Rattle.rounding.proofs.Laws.NearOne.{near_positive}
 use Rattle.vector.specs.Coords.{normalize_or, normalize_or_zero, vector_add}
 use Rattle.vector.specs.Geometry.{horizontal_of}
-use Rattle.vector.specs.Laws.{over_root}
+use Rattle.vector.proofs.Laws.{over_root}
 use Rattle.vector.specs.declared.coords.Vector.{Vector}
 use Rattle.shape.specs.Strip.{along_of}
 use Rattle.shape.proofs.rib.along.Statement.{statement}

@@ -4,7 +4,7 @@ use Rattle.shape.specs.declared.rib.Walk.{Walk}
 use Rattle.shape.specs.Gather.{gather}
 use Rattle.shape.specs.Strip.{Lane, lane_of, leg_in, indices_at, indices_of}
 use Rattle.shape.specs.MeshSteps.{walk_at}
-use Rattle.shape.specs.Laws.Gather.{gather_next}
+use Rattle.shape.proofs.Laws.Gather.{gather_next}
 use Rattle.shape.proofs.Strips.{leg_next}
 use Rattle.shape.proofs.strip.count_indices.Statement.{statement}
 use Rattle.shape.proofs.strip.count_indices.Tie as tie

@@ -7,8 +7,8 @@ use Rattle.shape.specs.Gather.{gather}
 use Rattle.shape.specs.Memory.{Put}
 use Rattle.shape.specs.Strip.{Lane, lane_of, leg_in, six_of, vertices_at, normals_at, indices_at, vertices_of, normals_of, indices_of}
 use Rattle.shape.specs.MeshSteps.{walk_at}
-use Rattle.shape.specs.Laws.Gather.{gather_fits}
-use Rattle.shape.specs.Laws.Memory.{put_none, put_length, put_turn}
+use Rattle.shape.proofs.Laws.Gather.{gather_fits}
+use Rattle.shape.proofs.Laws.Memory.{put_none, put_length, put_turn}
 use Rattle.shape.proofs.Strips.{leg_next}
 use Rattle.shape.proofs.strip.put_ribs.Statement.{statement}
 use Rattle.shape.proofs.strip.put_ribs.Tie as tie

@@ -1,7 +1,7 @@
 -- `shape::strip::put_segment` meets its contract. Assumes nothing.
 use Rattle.std.proofs.Common.{arith, rules}
 use Rattle.shape.specs.Strip.{segment_of}
-use Rattle.shape.specs.Laws.Memory.{put_then, put_length}
+use Rattle.shape.proofs.Laws.Memory.{put_then, put_length}
 use Rattle.shape.proofs.Strips.{segment_length}
 use Rattle.shape.proofs.strip.put_segment.Statement.{statement}
 use Rattle.shape.proofs.strip.put_segment.Tie as tie

@@ -1,6 +1,6 @@
 -- `shape::strip::put_six` meets its contract. Assumes nothing.
 use Rattle.shape.specs.Strip.{six_of}
-use Rattle.shape.specs.Laws.Memory.{put_then}
+use Rattle.shape.proofs.Laws.Memory.{put_then}
 use Rattle.std.proofs.Common.{rules}
 use Rattle.shape.proofs.strip.put_six.Statement.{statement}
 use Rattle.shape.proofs.strip.put_six.Tie as tie

@@ -1,7 +1,7 @@
 -- `shape::strip::put_strip` meets its contract. Assumes nothing.
 use Rattle.std.proofs.Common.{◌≡◌, ℕ, zero, suc, ◌<◌, List, length, take, sym, refl, ap, ◌∙◌, zero-add, arith, rules}
 use Rattle.shape.specs.Strip.{lane_of, kept}
-use Rattle.shape.specs.Laws.Memory.{put_front}
+use Rattle.shape.proofs.Laws.Memory.{put_front}
 use Rattle.shape.proofs.Meshing.{ribs_room, indices_room, span_room, wrote, wrote_none}
 use Rattle.shape.proofs.strip.put_strip.Statement.{statement}
 use Rattle.shape.proofs.strip.put_strip.Tie as tie

@@ -1,6 +1,6 @@
 -- `shape::strip::put_ups` meets its contract. Assumes nothing.
 use Rattle.shape.specs.Strip.{ups_of}
-use Rattle.shape.specs.Laws.Memory.{put_then}
+use Rattle.shape.proofs.Laws.Memory.{put_then}
 use Rattle.std.proofs.Common.{rules}
 use Rattle.shape.proofs.strip.put_ups.Statement.{statement}
 use Rattle.shape.proofs.strip.put_ups.Tie as tie

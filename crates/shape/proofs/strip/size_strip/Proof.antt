@@ -1,7 +1,7 @@
 -- `shape::strip::size_strip` meets its contract. Assumes nothing.
 use Rattle.std.proofs.Common.{◌∙◌, zero-add, arith, length-take, rules}
 use Rattle.shape.specs.Strip.{lane_of, kept}
-use Rattle.shape.specs.Laws.Memory.{put_front}
+use Rattle.shape.proofs.Laws.Memory.{put_front}
 use Rattle.shape.proofs.Meshing.{grow}
 use Rattle.shape.proofs.strip.size_strip.Statement.{statement}
 use Rattle.shape.proofs.strip.size_strip.Tie as tie

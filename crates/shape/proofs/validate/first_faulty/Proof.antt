@@ -2,7 +2,7 @@
 use Rattle.std.proofs.Common.{◌≡◌, ◌-◌, ◌/◌, ◌≤◌, false, length, sym, refl, ◌∙◌, arith}
 use Rattle.shape.specs.Gather.{any}
 use Rattle.shape.specs.Verdict.{faulty_at, triples_of}
-use Rattle.shape.specs.Laws.Gather.{any_none, any_next, least_at}
+use Rattle.shape.proofs.Laws.Gather.{any_none, any_next, least_at}
 use Rattle.shape.proofs.Verdicts.{whole_least}
 use Rattle.shape.proofs.validate.first_faulty.Statement.{statement}
 use Rattle.shape.proofs.validate.first_faulty.Tie as tie

@@ -1,7 +1,7 @@
 -- `shape::validate::first_unsound` meets its contract: where all numbers are finite, no vertex is unsound. Assumes nothing.
 use Rattle.std.proofs.Common.{◌/◌, length, rules}
 use Rattle.shape.specs.Verdict.{unsound}
-use Rattle.shape.specs.Laws.Gather.{least_none}
+use Rattle.shape.proofs.Laws.Gather.{least_none}
 use Rattle.shape.proofs.Verdicts.{finite_sound}
 use Rattle.shape.proofs.validate.first_unsound.Statement.{statement}
 use Rattle.shape.proofs.validate.first_unsound.Tie as tie

@@ -2,7 +2,7 @@
 use Rattle.std.proofs.Common.{◌≡◌, ◌-◌, ◌/◌, ◌≤◌, false, length, refl, arith, rules}
 use Rattle.shape.specs.Gather.{any}
 use Rattle.shape.specs.Verdict.{unsound}
-use Rattle.shape.specs.Laws.Gather.{any_none, any_next, least_at, least_none}
+use Rattle.shape.proofs.Laws.Gather.{any_none, any_next, least_at, least_none}
 use Rattle.shape.proofs.validate.search_unsound.Statement.{statement}
 use Rattle.shape.proofs.validate.search_unsound.Tie as tie
 

@@ -8,7 +8,7 @@ use Rattle.rounding.specs.Thresholds.{micro}
 use Rattle.shape.specs.declared.weld.Welding.{Welding}
 use Rattle.shape.specs.Memory.{Put}
 use Rattle.shape.specs.Strip.{Weld, welded, weld_next, keeps, step_of, kept_of, end_kept}
-use Rattle.shape.specs.Laws.Memory.{sets_append, put_length}
+use Rattle.shape.proofs.Laws.Memory.{sets_append, put_length}
 use Rattle.shape.proofs.Strips.{cond_few, cond_le}
 use Rattle.shape.proofs.weld.weld.Statement.{statement}
 use Rattle.shape.proofs.weld.weld.Tie as tie

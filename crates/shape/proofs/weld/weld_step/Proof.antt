@@ -6,7 +6,7 @@ use Rattle.vector.specs.Coords.{length_squared_of, length_of, point_sub}
 use Rattle.vector.specs.declared.coords.Point.{Point}
 use Rattle.vector.specs.declared.coords.Vector.{Vector}
 use Rattle.shape.specs.Strip.{keeps, step_of}
-use Rattle.shape.specs.Laws.Memory.{put_none}
+use Rattle.shape.proofs.Laws.Memory.{put_none}
 use Rattle.shape.proofs.weld.weld_step.Statement.{statement}
 use Rattle.shape.proofs.weld.weld_step.Tie as tie
 

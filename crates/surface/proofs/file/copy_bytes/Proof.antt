@@ -4,10 +4,10 @@ use Prim.Native.Nat.{◌+◌, ◌-◌, ◌*◌, ◌/◌, ◌≤◌}
 use lib.ListN.{length}
 use Rattle.shape.specs.Gather.{gather}
 use Rattle.shape.specs.Memory.{Put}
-use Rattle.shape.specs.Laws.Memory.{put_none, put_turn, put_length}
+use Rattle.shape.proofs.Laws.Memory.{put_none, put_turn, put_length}
 use Rattle.surface.specs.File.{encode, file_at, bytes_of, parts}
-use Rattle.surface.specs.Laws.File.{encode_length}
-use Rattle.surface.specs.Laws.Records.{file_eight}
+use Rattle.surface.proofs.Laws.File.{encode_length}
+use Rattle.surface.proofs.Laws.Records.{file_eight}
 use native.Mathlib.Omega.{arith}
 use Rattle.surface.proofs.file.copy_bytes.Statement.{statement}
 use Rattle.surface.proofs.file.copy_bytes.Tie as tie

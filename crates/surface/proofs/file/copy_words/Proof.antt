@@ -4,9 +4,9 @@ use Prim.Native.Nat.{◌+◌, ◌-◌, ◌*◌, ◌/◌, ◌≤◌}
 use lib.ListN.{length}
 use Rattle.shape.specs.Gather.{gather}
 use Rattle.shape.specs.Memory.{Put}
-use Rattle.shape.specs.Laws.Memory.{put_none, put_turn, put_length}
+use Rattle.shape.proofs.Laws.Memory.{put_none, put_turn, put_length}
 use Rattle.surface.specs.File.{held_at, words_of, parts}
-use Rattle.surface.specs.Laws.Records.{held_eight}
+use Rattle.surface.proofs.Laws.Records.{held_eight}
 use native.Mathlib.Omega.{arith}
 use Rattle.surface.proofs.file.copy_words.Statement.{statement}
 use Rattle.surface.proofs.file.copy_words.Tie as tie

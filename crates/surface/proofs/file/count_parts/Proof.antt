@@ -1,5 +1,5 @@
 -- `surface::file::count_parts` meets its contract: the quotient, and one more for what is left. Assumes nothing.
-use Rattle.surface.specs.Laws.Records.{parts_even, parts_more, more_fits}
+use Rattle.surface.proofs.Laws.Records.{parts_even, parts_more, more_fits}
 use native.Mathlib.Omega.{arith}
 use borrow.Author.Rules.{rules}
 use Rattle.surface.proofs.file.count_parts.Statement.{statement}

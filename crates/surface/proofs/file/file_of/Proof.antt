@@ -1,6 +1,6 @@
 -- `surface::file::file_of` meets its contract: each kind stands as it is held. Assumes nothing.
 use mathlib.Core.Path.{sym}
-use Rattle.surface.specs.Laws.File.{file_same}
+use Rattle.surface.proofs.Laws.File.{file_same}
 use Rattle.surface.proofs.file.file_of.Statement.{statement}
 use Rattle.surface.proofs.file.file_of.Tie as tie
 

@@ -1,6 +1,6 @@
 -- `surface::file::file_record` meets its contract: its eight words. Assumes nothing.
 use mathlib.Core.Path.{sym}
-use Rattle.surface.specs.Laws.File.{file_words}
+use Rattle.surface.proofs.Laws.File.{file_words}
 use borrow.Author.Rules.{rules}
 use Rattle.surface.proofs.file.file_record.Statement.{statement}
 use Rattle.surface.proofs.file.file_record.Tie as tie

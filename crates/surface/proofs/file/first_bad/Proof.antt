@@ -3,7 +3,7 @@ use mathlib.Core.Path.{◌≡◌, ◌∙◌}
 use Prim.Native.Nat.{◌-◌, ◌≤◌}
 use native.Mathlib.Omega.{arith}
 use Rattle.surface.specs.FileSteps.{whole_in, record_in}
-use Rattle.surface.specs.Laws.Records.{Passed, passed_none, passed_next, passed_bad, passed_all, whole_eight}
+use Rattle.surface.proofs.Laws.Records.{Passed, passed_none, passed_next, passed_bad, passed_all, whole_eight}
 use Rattle.surface.proofs.file.first_bad.Statement.{statement}
 use Rattle.surface.proofs.file.first_bad.Tie as tie
 

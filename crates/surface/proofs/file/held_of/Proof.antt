@@ -1,6 +1,6 @@
 -- `surface::file::held_of` meets its contract: each kind is held as it stands. Assumes nothing.
 use mathlib.Core.Path.{sym}
-use Rattle.surface.specs.Laws.File.{held_same}
+use Rattle.surface.proofs.Laws.File.{held_same}
 use Rattle.surface.proofs.file.held_of.Statement.{statement}
 use Rattle.surface.proofs.file.held_of.Tie as tie
 

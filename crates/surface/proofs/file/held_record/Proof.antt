@@ -1,6 +1,6 @@
 -- `surface::file::held_record` meets its contract: its eight words. Assumes nothing.
 use mathlib.Core.Path.{sym}
-use Rattle.surface.specs.Laws.File.{held_words}
+use Rattle.surface.proofs.Laws.File.{held_words}
 use borrow.Author.Rules.{rules}
 use Rattle.surface.proofs.file.held_record.Statement.{statement}
 use Rattle.surface.proofs.file.held_record.Tie as tie

@@ -4,7 +4,7 @@ use Prim.Native.Nat.{◌+◌, ◌-◌, ◌*◌, ◌≤◌}
 use lib.ListN.{length, get_or}
 use Rattle.shape.specs.Gather.{gather}
 use Rattle.shape.specs.Memory.{Put}
-use Rattle.shape.specs.Laws.Memory.{put_none, put_turn, put_length}
+use Rattle.shape.proofs.Laws.Memory.{put_none, put_turn, put_length}
 use Rattle.surface.specs.File.{four_bytes, encode}
 use native.Mathlib.Omega.{arith}
 use Rattle.surface.proofs.file.put_file.Statement.{statement}

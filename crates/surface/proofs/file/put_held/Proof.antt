@@ -5,8 +5,8 @@ use Prim.Native.Nat.{◌+◌, ◌-◌, ◌≤◌}
 use lib.ListN.{get_or}
 use Rattle.shape.specs.Gather.{gather}
 use Rattle.shape.specs.Memory.{Put}
-use Rattle.shape.specs.Laws.Memory.{put_none, put_turn, put_length}
-use Rattle.surface.specs.Laws.File.{listed}
+use Rattle.shape.proofs.Laws.Memory.{put_none, put_turn, put_length}
+use Rattle.surface.proofs.Laws.File.{listed}
 use native.Mathlib.Nat.{add-zero}
 use native.Mathlib.Omega.{arith}
 use Rattle.surface.proofs.file.put_held.Statement.{statement}

@@ -1,7 +1,7 @@
 -- `surface::file::read` meets its contract, by the check and the room. Assumes nothing.
 use mathlib.Core.Path.{sym}
 use Rattle.surface.specs.File.{file_fault, words_of, read_of}
-use Rattle.surface.specs.Laws.File.{words_length, whole_file}
+use Rattle.surface.proofs.Laws.File.{words_length, whole_file}
 use Rattle.surface.proofs.Copies.{sound, faulty, said_faulty, said_short, said_copied}
 use native.Mathlib.Omega.{arith}
 use borrow.Author.Rules.{rules}

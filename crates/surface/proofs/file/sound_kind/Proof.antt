@@ -1,7 +1,7 @@
 -- `surface::file::sound_kind` meets its contract, by the test that led to each return. Assumes nothing.
 use mathlib.Core.Path.{sym, ◌∙◌}
 use native.Mathlib.Omega.{arith}
-use Rattle.surface.specs.Laws.Records.{kind_unknown, kind_falls, kind_spare, kind_kept}
+use Rattle.surface.proofs.Laws.Records.{kind_unknown, kind_falls, kind_spare, kind_kept}
 use borrow.Author.Rules.{rules}
 use Rattle.surface.proofs.file.sound_kind.Statement.{statement}
 use Rattle.surface.proofs.file.sound_kind.Tie as tie

@@ -1,5 +1,5 @@
 -- `surface::file::spare` meets its contract, by the table. Assumes nothing.
-use Rattle.surface.specs.Laws.Records.{spare_vertex, spare_triangle, spare_question}
+use Rattle.surface.proofs.Laws.Records.{spare_vertex, spare_triangle, spare_question}
 use Rattle.surface.proofs.file.spare.Statement.{statement}
 use Rattle.surface.proofs.file.spare.Tie as tie
 

@@ -4,7 +4,7 @@ use mathlib.Core.Bool.{false}
 use Prim.Native.Nat.{◌-◌, ◌≤◌}
 use lib.ListN.{get_or}
 use Rattle.shape.specs.Gather.{any}
-use Rattle.shape.specs.Laws.Gather.{any_next, any_some}
+use Rattle.shape.proofs.Laws.Gather.{any_next, any_some}
 use Rattle.surface.specs.File.{spare_used}
 use native.Mathlib.Omega.{arith}
 use Rattle.surface.proofs.file.spare_used.Statement.{statement}

@@ -2,7 +2,7 @@
 use borrow.Author.Tests.{lt-ltb, le-ltb}
 use Rattle.shape.specs.Refusal.{found, number_of, place_of, refuse}
 use Rattle.surface.specs.File.{refuse_first, surface_fault}
-use Rattle.surface.specs.Laws.Records.{first_of_all}
+use Rattle.surface.proofs.Laws.Records.{first_of_all}
 use borrow.Author.Rules.{rules}
 use Rattle.surface.proofs.file.surface_fault.Statement.{statement}
 use Rattle.surface.proofs.file.surface_fault.Tie as tie

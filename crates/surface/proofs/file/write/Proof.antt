@@ -1,7 +1,7 @@
 -- `surface::file::write` meets its contract, by the check and the room. Assumes nothing.
 use mathlib.Core.Path.{sym}
 use Rattle.surface.specs.File.{held_fault, bytes_of, write_of}
-use Rattle.surface.specs.Laws.File.{bytes_length, whole_held}
+use Rattle.surface.proofs.Laws.File.{bytes_length, whole_held}
 use Rattle.surface.proofs.Copies.{sound, faulty, said_faulty, said_short, said_copied}
 use native.Mathlib.Omega.{arith}
 use borrow.Author.Rules.{rules}

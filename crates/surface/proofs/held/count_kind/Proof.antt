@@ -5,8 +5,8 @@ use lib.Dec.{eqb}
 use lib.ListN.{length}
 use Rattle.surface.specs.File.{words_of}
 use Rattle.surface.specs.Held.{how_many, is_kind, count_kind}
-use Rattle.surface.specs.Laws.Held.{how_many_next, how_many_le, one_at_most}
-use Rattle.surface.specs.Laws.File.{words_length}
+use Rattle.surface.proofs.Laws.Held.{how_many_next, how_many_le, one_at_most}
+use Rattle.surface.proofs.Laws.File.{words_length}
 use native.Mathlib.Omega.{arith}
 use Rattle.surface.proofs.held.count_kind.Statement.{statement}
 use Rattle.surface.proofs.held.count_kind.Tie as tie

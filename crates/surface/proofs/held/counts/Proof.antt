@@ -2,7 +2,7 @@
 use native.Mathlib.Omega.{arith}
 use Rattle.surface.specs.File.{words_of}
 use Rattle.surface.specs.Held.{sizes_of}
-use Rattle.surface.specs.Laws.Report.{kind_most}
+use Rattle.surface.proofs.Laws.Report.{kind_most}
 use borrow.Author.Rules.{rules}
 use Rattle.surface.proofs.held.counts.Statement.{statement}
 use Rattle.surface.proofs.held.counts.Tie as tie

@@ -1,7 +1,7 @@
 -- `surface::held::lane_of` meets its contract. Assumes nothing.
 use Rattle.surface.specs.File.{words_of}
 use Rattle.surface.specs.Held.{triangle_record, lane_in}
-use Rattle.surface.specs.Laws.Held.{sized}
+use Rattle.surface.proofs.Laws.Held.{sized}
 use native.Mathlib.Omega.{arith}
 use Rattle.surface.proofs.held.lane_of.Statement.{statement}
 use Rattle.surface.proofs.held.lane_of.Tie as tie

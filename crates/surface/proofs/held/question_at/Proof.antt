@@ -1,7 +1,7 @@
 -- `surface::held::question_at` meets its contract. Assumes nothing.
 use Rattle.surface.specs.File.{words_of}
 use Rattle.surface.specs.Held.{question_record, question_at}
-use Rattle.surface.specs.Laws.Held.{sized}
+use Rattle.surface.proofs.Laws.Held.{sized}
 use native.Mathlib.Omega.{arith}
 use borrow.Author.Rules.{rules}
 use Rattle.surface.proofs.held.question_at.Statement.{statement}

@@ -4,10 +4,10 @@ use Prim.Native.Nat.{◌-◌, ◌*◌, ◌≤◌}
 use native.Mathlib.Omega.{arith}
 use Rattle.shape.specs.Gather.{gather}
 use Rattle.shape.specs.Memory.{Put}
-use Rattle.shape.specs.Laws.Memory.{put_none, put_turn, put_length}
+use Rattle.shape.proofs.Laws.Memory.{put_none, put_turn, put_length}
 use Rattle.surface.specs.File.{words_of}
 use Rattle.surface.specs.Held.{count_kind, point_in, points_of}
-use Rattle.surface.specs.Laws.Held.{sized}
+use Rattle.surface.proofs.Laws.Held.{sized}
 use Rattle.surface.proofs.held.unpack_points.Statement.{statement}
 use Rattle.surface.proofs.held.unpack_points.Tie as tie
 

@@ -1,5 +1,5 @@
 -- `surface::held::word` meets its contract. Assumes nothing.
-use Rattle.surface.specs.Laws.File.{word_here, word_past}
+use Rattle.surface.proofs.Laws.File.{word_here, word_past}
 use borrow.Author.Rules.{rules}
 use Rattle.surface.proofs.held.word.Statement.{statement}
 use Rattle.surface.proofs.held.word.Tie as tie

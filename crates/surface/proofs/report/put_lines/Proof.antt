@@ -5,11 +5,11 @@ use native.Mathlib.Omega.{arith}
 use lib.ListN.{length}
 use Rattle.shape.specs.Gather.{gather}
 use Rattle.shape.specs.Memory.{Put}
-use Rattle.shape.specs.Laws.Memory.{put_none, put_length}
+use Rattle.shape.proofs.Laws.Memory.{put_none, put_length}
 use Rattle.surface.specs.File.{words_of}
 use Rattle.surface.specs.Held.{count_kind}
 use Rattle.surface.specs.Report.{line_at, answered_at}
-use Rattle.surface.specs.Laws.Held.{how_many_le}
+use Rattle.surface.proofs.Laws.Held.{how_many_le}
 use Rattle.surface.proofs.Telling.{asked_are, asked_most, asked_length, next_line, line_fits, last_fits, last_line}
 use Rattle.surface.proofs.report.put_lines.Statement.{statement}
 use Rattle.surface.proofs.report.put_lines.Tie as tie

@@ -7,8 +7,8 @@ use Rattle.shape.specs.Gather.{gather}
 use Rattle.surface.specs.File.{words_of}
 use Rattle.surface.specs.Held.{how_many, count_kind}
 use Rattle.surface.specs.Report.{line_at, answered_at}
-use Rattle.surface.specs.Laws.Held.{how_many_le}
-use Rattle.surface.specs.Laws.Report.{lines_few}
+use Rattle.surface.proofs.Laws.Held.{how_many_le}
+use Rattle.surface.proofs.Laws.Report.{lines_few}
 use Rattle.surface.proofs.Telling.{asked_are, asked_most, asked_length, next_size, next_found}
 use Rattle.surface.proofs.report.tally.Statement.{statement}
 use Rattle.surface.proofs.report.tally.Tie as tie

@@ -4,8 +4,8 @@ use native.Mathlib.Omega.{arith}
 use Rattle.surface.specs.File.{words_of}
 use Rattle.surface.specs.Held.{count_kind}
 use Rattle.surface.specs.Report.{answered_at}
-use Rattle.surface.specs.Laws.Held.{how_many_le}
-use Rattle.surface.specs.Laws.Report.{lines_few}
+use Rattle.surface.proofs.Laws.Held.{how_many_le}
+use Rattle.surface.proofs.Laws.Report.{lines_few}
 use Rattle.surface.proofs.Telling.{asked_are, asked_most, text_size}
 use Rattle.surface.proofs.Reporting.{says_short, says_whole}
 use borrow.Author.Rules.{rules}

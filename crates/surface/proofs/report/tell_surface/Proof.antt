@@ -1,6 +1,6 @@
 -- `surface::report::tell_surface` meets its contract. Assumes nothing.
 use native.Mathlib.Omega.{arith}
-use Rattle.shape.specs.Laws.Memory.{put_front}
+use Rattle.shape.proofs.Laws.Memory.{put_front}
 use Rattle.surface.proofs.Reporting.{put_part}
 use borrow.Author.Rules.{rules}
 use Rattle.surface.proofs.report.tell_surface.Statement.{statement}

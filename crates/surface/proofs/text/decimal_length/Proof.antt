@@ -4,7 +4,7 @@ use Prim.Native.Nat.{◌+◌, ◌<◌, ◌≤◌, ◌^◌}
 use native.Mathlib.Omega.{arith}
 use lib.ListN.{length}
 use Rattle.surface.specs.Text.{decimal}
-use Rattle.surface.specs.Laws.Text.{digits_few, decimal_one, decimal_more}
+use Rattle.surface.proofs.Laws.Text.{digits_few, decimal_one, decimal_more}
 use Rattle.surface.proofs.text.decimal_length.Statement.{statement}
 use Rattle.surface.proofs.text.decimal_length.Tie as tie
 

@@ -1,6 +1,6 @@
 -- `surface::text::lane_length` meets its contract. Assumes nothing.
 use native.Mathlib.Omega.{arith}
-use Rattle.surface.specs.Laws.Text.{lane_none_size, lane_some_size}
+use Rattle.surface.proofs.Laws.Text.{lane_none_size, lane_some_size}
 use borrow.Author.Rules.{rules}
 use Rattle.surface.proofs.text.lane_length.Statement.{statement}
 use Rattle.surface.proofs.text.lane_length.Tie as tie

@@ -6,7 +6,7 @@ use native.Mathlib.Omega.{arith}
 use lib.ListN.{length, take, length-set}
 use lib.Seq.{take-length}
 use Rattle.shape.specs.Memory.{Put}
-use Rattle.shape.specs.Laws.Memory.{put_none}
+use Rattle.shape.proofs.Laws.Memory.{put_none}
 use Rattle.surface.proofs.Texts.{byte_turn}
 use Rattle.surface.proofs.text.put_bytes.Statement.{statement}
 use Rattle.surface.proofs.text.put_bytes.Tie as tie

@@ -1,8 +1,8 @@
 -- `surface::text::put_float` meets its contract. Assumes nothing.
 use native.Mathlib.Omega.{arith}
-use Rattle.shape.specs.Laws.Memory.{put_then}
+use Rattle.shape.proofs.Laws.Memory.{put_then}
 use Rattle.rounding.specs.Stored.{stored_of}
-use Rattle.surface.specs.Laws.Text.{hex_eight}
+use Rattle.surface.proofs.Laws.Text.{hex_eight}
 use borrow.Author.Rules.{rules}
 use Rattle.surface.proofs.text.put_float.Statement.{statement}
 use Rattle.surface.proofs.text.put_float.Tie as tie

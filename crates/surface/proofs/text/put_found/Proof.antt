@@ -1,5 +1,5 @@
 -- `surface::text::put_found` meets its contract. Assumes nothing.
-use Rattle.shape.specs.Laws.Memory.{put_then}
+use Rattle.shape.proofs.Laws.Memory.{put_then}
 use Rattle.surface.specs.Text.{found_line}
 use borrow.Author.Rules.{rules}
 use Rattle.surface.proofs.text.put_found.Statement.{statement}

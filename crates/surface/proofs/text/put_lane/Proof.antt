@@ -1,6 +1,6 @@
 -- `surface::text::put_lane` meets its contract. Assumes nothing.
 use native.Mathlib.Omega.{arith}
-use Rattle.surface.specs.Laws.Text.{lane_none_size, lane_some_size}
+use Rattle.surface.proofs.Laws.Text.{lane_none_size, lane_some_size}
 use Rattle.surface.proofs.Texts.{lane_none, lane_some}
 use borrow.Author.Rules.{rules}
 use Rattle.surface.proofs.text.put_lane.Statement.{statement}

@@ -1,5 +1,5 @@
 -- `surface::text::put_none` meets its contract. Assumes nothing.
-use Rattle.shape.specs.Laws.Memory.{put_then}
+use Rattle.shape.proofs.Laws.Memory.{put_then}
 use Rattle.surface.specs.Text.{none_line}
 use borrow.Author.Rules.{rules}
 use Rattle.surface.proofs.text.put_none.Statement.{statement}

@@ -1,6 +1,6 @@
 -- `surface::text::put_normal` meets its contract. Assumes nothing.
 use native.Mathlib.Omega.{arith}
-use Rattle.shape.specs.Laws.Memory.{put_then}
+use Rattle.shape.proofs.Laws.Memory.{put_then}
 use Rattle.surface.specs.Text.{normal_text}
 use borrow.Author.Rules.{rules}
 use Rattle.surface.proofs.text.put_normal.Statement.{statement}

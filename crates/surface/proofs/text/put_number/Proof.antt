@@ -1,6 +1,6 @@
 -- `surface::text::put_number` meets its contract. Assumes nothing.
 use native.Mathlib.Omega.{arith}
-use Rattle.shape.specs.Laws.Memory.{put_then}
+use Rattle.shape.proofs.Laws.Memory.{put_then}
 use borrow.Author.Rules.{rules}
 use Rattle.surface.proofs.text.put_number.Statement.{statement}
 use Rattle.surface.proofs.text.put_number.Tie as tie

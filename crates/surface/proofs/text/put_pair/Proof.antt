@@ -1,5 +1,5 @@
 -- `surface::text::put_pair` meets its contract. Assumes nothing.
-use Rattle.shape.specs.Laws.Memory.{put_then}
+use Rattle.shape.proofs.Laws.Memory.{put_then}
 use borrow.Author.Rules.{rules}
 use Rattle.surface.proofs.text.put_pair.Statement.{statement}
 use Rattle.surface.proofs.text.put_pair.Tie as tie

@@ -3,8 +3,8 @@ use borrow.Author.Rules.{rules}
 use mathlib.Core.Path.{◌∙◌, subst}
 use lib.Ieee.{Float, of_bits}
 use Rattle.rounding.specs.Root.{PositiveRoot}
-use Rattle.rounding.specs.Laws.NearOne.{near_positive}
-use Rattle.vector.specs.Laws.{over_root}
+use Rattle.rounding.proofs.Laws.NearOne.{near_positive}
+use Rattle.vector.proofs.Laws.{over_root}
 use Rattle.vector.proofs.coords.Vector.normalize_or.Statement.{statement}
 use Rattle.vector.proofs.coords.Vector.normalize_or.Tie as tie
 

@@ -1,0 +1,48 @@
+-- Runs of stores: one after another, and read back from the front. Assumes nothing.
+use Rattle.std.specs.Prelude.{◌≡◌, ℕ, suc, ◌+◌, ◌≤◌, List, [], ◌∷◌, ◌++◌, length, take, drop, set, refl}
+use Rattle.std.proofs.Common.{sym, ap, ◌∙◌, add-zero, zero-add, add-suc, suc-add, arith, length-append}
+use Rattle.std.proofs.lemmas.List.Edits.{sets, sets-eq}
+use Rattle.std.proofs.Math.Seq.{length-sets, take-append_seam}
+use Rattle.shape.specs.Gather.{gather}
+use Rattle.shape.specs.Memory.{Put}
+use Rattle.shape.proofs.Laws.Gather.{gather_next}
+
+module _ {ℓ} {A : Type ℓ} where
+  pub sets_append : (xs ys m : List A) (i : ℕ) → sets m i (xs ++ ys) ≡ sets (sets m i xs) (i + length xs) ys
+  sets_append [] ys m i = ap (λ (k : ℕ). sets m k ys) (sym (add-zero i))
+  sets_append (x ∷ xs) ys m i =
+      sets_append xs ys (set m i x) (suc i)
+      ∙ ap (λ (k : ℕ). sets (sets (set m i x) (suc i) xs) k ys) (suc-add i (length xs) ∙ sym (add-suc i (length xs)))
+
+  -- from the front: what is put, and then what was there
+  pub sets_front : (xs m : List A) → length xs ≤ length m → sets m 0 xs ≡ xs ++ drop (length xs) m
+  sets_front xs m h = sets-eq xs m 0 (rw zero-add h) ∙ rw zero-add
+
+  pub take_sets_front : (xs m : List A) → length xs ≤ length m → take (length xs) (sets m 0 xs) ≡ xs
+  take_sets_front xs m h = rw (sets_front xs m h) (take-append_seam xs (drop (length xs) m))
+
+module _ {A : Type 0} where
+  pub put_none : (m : List A) (at : ℕ) → Put m m at [] at
+  put_none m at = record { memory = refl; ends = sym (add-zero at) }
+
+  pub put_then : {m₀ m m' xs ys : List A} {at q q' : ℕ} → Put m₀ m at xs q → Put m m' q ys q' → Put m₀ m' at (xs ++ ys) q'
+  put_then {m₀} {m} {m'} {xs} {ys} {at} {q} {q'} p r =
+      record {
+        memory = rw (sets_append, ← p.memory, ← p.ends) r.memory;
+        ends = rw length-append (omega (arith, p.ends, r.ends));
+      }
+
+  pub put_length : {m₀ m xs : List A} {at q : ℕ} → Put m₀ m at xs q → length m ≡ length m₀
+  put_length {m₀} {m} {xs} {at} p = ap length p.memory ∙ length-sets m₀ at xs
+
+  -- one turn of a loop that puts what f gathers
+  pub put_turn : (f : ℕ → List A) (i : ℕ) {m₀ m m' : List A} {at q q' : ℕ} → Put m₀ m at (gather f i) q → Put m m' q (f i) q'
+      → Put m₀ m' at (gather f (i + 1)) q'
+  put_turn f i p r = rw (gather_next f i) (put_then p r)
+
+  -- what was put at the front is read back
+  pub put_front : {m₀ m xs : List A} {n : ℕ} → Put m₀ m 0 xs n → n ≤ length m₀ → take n m ≡ xs
+  put_front {m₀} {m} {xs} {n} p h =
+      let e : n ≡ length xs = p.ends ∙ zero-add (length xs) in
+      let k : length xs ≤ length m₀ = omega arith in
+      rw (e, p.memory) (take_sets_front xs m₀ k)

@@ -1,0 +1,244 @@
+-- Laws behind the judging of records: how many there are, and the kind that is kept from one to the next. Assumes nothing.
+use Rattle.std.specs.Prelude.{◌≡◌, Bool, not, ◌||◌, List, ltb, length, get_or, take, drop}
+use Rattle.std.proofs.Math.Path.{refl, sym}
+use Rattle.std.proofs.Common.{ap, ◌∙◌, mul-le-mul_left, length-take, length-drop}
+use Rattle.std.proofs.Math.Bool.{true, false, cond}
+use Prim.Native.Nat.{ℕ, zero, suc, ◌+◌, ◌-◌, ◌*◌, ◌/◌, ◌%◌, ◌≤◌, ◌<◌, min}
+use Rattle.std.proofs.Math.Nat.{div-add-mod', div-eq_of_lt-le, mod-lt, add-mul}
+use Rattle.std.proofs.Math.Numerals.{add-one}
+use Rattle.std.proofs.Math.Decide.{dec_lt}
+use native.Mathlib.Omega.{arith}
+use borrow.Author.Tests.{lt-ltb, le-ltb, eq-eqb, ne_eqb, eqb-true}
+use Rattle.std.proofs.Math.Dec.{eqb}
+use Rattle.shape.specs.Gather.{any, least}
+use Rattle.shape.proofs.Laws.Gather.{any_next, any_none, least_at, least_none}
+use Rattle.surface.specs.declared.file.Form.{Form}
+use Rattle.surface.specs.declared.file.Form.TheVariants.{File, Held}
+use Rattle.surface.specs.File.{kind_of, by_kind, spares, spare, spare_used, bad_record, kind_before, bad_at, parts, held_record, file_record, held_of, file_of, held_at, file_at}
+use Rattle.surface.specs.FileSteps.{sound_kind, count_in, whole_in, record_in}
+use Rattle.surface.proofs.Laws.File.{decode_length, held_same, file_same}
+
+-- ---- how many there are
+
+pub positive : (r : ℕ) → (r ≡ 0 → ⊥) → 0 < r
+positive zero e = absurd (e refl)
+positive (suc r) e = omega arith
+
+module _ (u n : ℕ) (some : 0 < u) where
+  pub parts_even : n % u ≡ 0 → n / u ≡ parts u n
+  unfolding parts
+  parts_even e =
+      let d : n / u * u + n % u ≡ n = div-add-mod' n u in
+      let low : n / u * u ≤ n + (u - 1) = omega arith in
+      let high : n + (u - 1) < (n / u + 1) * u = rw (add-mul (n / u) 1 u) (omega arith) in
+      sym (div-eq_of_lt-le u low high)
+
+  pub parts_more : (n % u ≡ 0 → ⊥) → n / u + 1 ≡ parts u n
+  unfolding parts
+  parts_more e =
+      let d : n / u * u + n % u ≡ n = div-add-mod' n u in
+      let r : n % u < u = mod-lt n some in
+      let p : 0 < n % u = positive (n % u) e in
+      let low : (n / u + 1) * u ≤ n + (u - 1) = rw (add-mul (n / u) 1 u) (omega arith) in
+      let high : n + (u - 1) < (n / u + 1 + 1) * u = rw (add-mul (n / u + 1) 1 u, add-mul (n / u) 1 u) (omega arith) in
+      sym (div-eq_of_lt-le u low high)
+
+  pub more_fits : (n % u ≡ 0 → ⊥) → n / u + 1 ≤ n
+  more_fits e =
+      let d : n / u * u + n % u ≡ n = div-add-mod' n u in
+      let p : 0 < n % u = positive (n % u) e in
+      let m : n / u * 1 ≤ n / u * u = mul-le-mul_left (n / u) some in
+      omega arith
+
+-- ---- spare words, by the first of them
+
+same_bool : (a b : Bool) → cond a (not b) b ≡ false → a ≡ b
+same_bool true true e = refl
+same_bool true false e = e
+same_bool false true e = sym e
+same_bool false false e = refl
+
+-- a table of eight that agrees with a rule at each of them
+by_table : (row : List Bool) (rule : ℕ → Bool) → any (λ j. cond (get_or row j false) (not (rule j)) (rule j)) 8 ≡ false → (j : ℕ) → j < 8
+    → rule j ≡ get_or row j false
+by_table row rule e j h = sym (same_bool (get_or row j false) (rule j) (any_none (λ j. cond (get_or row j false) (not (rule j)) (rule j)) j 8 h e))
+
+module _ (form : Form) (kind j : ℕ) (h : j < 8) where
+  pub spare_vertex : kind ≡ 1 → eqb j 7 ≡ spare form kind j
+  unfolding spare spares by_kind any
+  spare_vertex e = rw e (by_table (spares form 1) (λ j. eqb j 7) refl j h)
+
+  pub spare_triangle : kind ≡ 2 → ltb 4 j ≡ spare form kind j
+  unfolding spare spares by_kind any
+  spare_triangle e = rw e (by_table (spares form 2) (ltb 4) refl j h)
+
+  pub spare_question : (kind ≡ 1 → ⊥) → (kind ≡ 2 → ⊥) → ltb 2 j ≡ spare form kind j
+  unfolding spare spares by_kind any
+  spare_question n₁ n₂ = rw (ne_eqb kind 1 n₁, ne_eqb kind 2 n₂) (by_table (spares form 3) (ltb 2) refl j h)
+
+-- ---- the kind of a sound record, and 0 of a bad one
+
+or_some : (a b : Bool) → a ≡ true → (a || b) ≡ true
+or_some a b e = rw e
+
+or_more : (a b : Bool) → b ≡ true → (a || b) ≡ true
+or_more true b e = refl
+or_more false b e = e
+
+module _ (form : Form) (r : List ℕ) (last : ℕ) where
+  -- the tests of a record, one after another
+  abbrev part : Bool
+  part = ltb (length r) 8
+
+  abbrev none : Bool
+  none = eqb (kind_of r) 0
+
+  abbrev high : Bool
+  high = ltb 3 (kind_of r)
+
+  abbrev falls : Bool
+  falls = ltb (kind_of r) last
+
+  abbrev filled : Bool
+  filled = any (spare_used form r) 8
+
+  zero_if_bad : bad_record form r last ≡ true → 0 ≡ sound_kind form r last
+  unfolding sound_kind
+  zero_if_bad e = rw e
+
+  pub kind_part : length r < 8 → 0 ≡ sound_kind form r last
+  unfolding bad_record
+  kind_part h = zero_if_bad (or_some part (none || (high || (falls || filled))) (lt-ltb (length r) 8 h))
+
+  bad_kind : (none || (high || (falls || filled))) ≡ true → bad_record form r last ≡ true
+  unfolding bad_record
+  bad_kind e = or_more part (none || (high || (falls || filled))) e
+
+  bad_known : (high || (falls || filled)) ≡ true → 0 ≡ sound_kind form r last
+  bad_known e = zero_if_bad (bad_kind (or_more none (high || (falls || filled)) e))
+
+  pub kind_unknown : 3 < kind_of r → 0 ≡ sound_kind form r last
+  kind_unknown h = bad_known (or_some high (falls || filled) (lt-ltb 3 (kind_of r) h))
+
+  pub kind_falls : kind_of r < last → 0 ≡ sound_kind form r last
+  kind_falls h = bad_known (or_more high (falls || filled) (or_some falls filled (lt-ltb (kind_of r) last h)))
+
+  pub kind_spare : any (spare_used form r) 8 ≡ true → 0 ≡ sound_kind form r last
+  kind_spare e = bad_known (or_more high (falls || filled) (or_more falls filled e))
+
+  pub kind_kept : 8 ≤ length r → kind_of r ≤ 3 → last ≤ kind_of r → any (spare_used form r) 8 ≡ false → kind_of r ≡ sound_kind form r last
+  unfolding sound_kind bad_record
+  kind_kept l h f e = rw (le-ltb (length r) 8 l, le-ltb 3 (kind_of r) h, le-ltb (kind_of r) last f, e) (go (eqb (kind_of r) 0) (eqb-true (kind_of r) 0))
+    where
+      go : (b : Bool) → (b ≡ true → kind_of r ≡ 0) → kind_of r ≡ cond (b || false) 0 (kind_of r)
+      go true z = z refl
+      go false z = refl
+
+  pub kind_bad : sound_kind form r last ≡ 0 → bad_record form r last ≡ true
+  unfolding sound_kind bad_record
+  kind_bad e = go (bad_record form r last) refl e
+    where
+      go : (b : Bool) → bad_record form r last ≡ b → cond b 0 (kind_of r) ≡ 0 → bad_record form r last ≡ true
+      go true p e = p
+      go false p e = bad_kind (or_some none (high || (falls || filled)) (eq-eqb (kind_of r) 0 e))
+
+  pub kind_sound : (sound_kind form r last ≡ 0 → ⊥) → (bad_record form r last ≡ false) × (sound_kind form r last ≡ kind_of r)
+  unfolding sound_kind
+  kind_sound n = go (bad_record form r last) refl n
+    where
+      go : (b : Bool) → bad_record form r last ≡ b → (cond b 0 (kind_of r) ≡ 0 → ⊥) → (bad_record form r last ≡ false) × (cond (bad_record form r last) 0 (kind_of r) ≡ kind_of r)
+      go true p n = absurd (n refl)
+      go false p n = (p, rw p)
+
+-- ---- one record after another
+
+-- no record before k is bad, and `last` is the kind of the one before
+pub record Passed (form : Form) (at : ℕ → List ℕ) (last k : ℕ) : Type 0 where
+  pub none : any (bad_at form at) k ≡ false
+  pub before : last ≡ kind_before at k
+
+module _ (form : Form) (at : ℕ → List ℕ) where
+  pub passed_none : Passed form at 0 0
+  unfolding any kind_before
+  passed_none = record { none = refl; before = refl }
+
+  module _ (last k kind : ℕ) (p : Passed form at last k) (e : kind ≡ sound_kind form (at k) last) where
+    pub passed_next : (kind ≡ 0 → ⊥) → Passed form at kind (k + 1)
+    unfolding bad_at kind_before
+    passed_next n =
+        let s = kind_sound form (at k) last (λ z. n (e ∙ z)) in
+        record {
+          none = rw (any_next (bad_at form at) k, p.none, ← p.before) s.0;
+          before = rw add-one (e ∙ s.1);
+        }
+
+    pub passed_bad : (n : ℕ) → k < n → kind ≡ 0 → k ≡ least (bad_at form at) n
+    unfolding bad_at
+    passed_bad n h z = least_at (bad_at form at) n k h (λ j l. any_none (bad_at form at) j k l p.none) (rw (← p.before) (kind_bad form (at k) last (sym e ∙ z)))
+
+  pub passed_all : (last n : ℕ) → Passed form at last n → n ≡ least (bad_at form at) n
+  passed_all last n p = least_none (bad_at form at) n (λ j l. any_none (bad_at form at) j n l p.none)
+
+-- ---- a record of held words, and of a file
+
+held_length : (ws : List ℕ) (k : ℕ) → length (held_record ws k) ≡ min 8 (length ws - 8 * k)
+unfolding held_record
+held_length ws k = length-take 8 (drop (8 * k) ws) ∙ ap (min 8) (length-drop (8 * k) ws)
+
+file_length : (bs : List ℕ) (k : ℕ) → length (file_record bs k) ≡ min 32 (length bs - 32 * k) / 4
+unfolding file_record
+file_length bs k = decode_length (take 32 (drop (32 * k) bs)) ∙ ap (λ (n : ℕ). n / 4) (length-take 32 (drop (32 * k) bs) ∙ ap (min 32) (length-drop (32 * k) bs))
+
+-- a whole record has eight words, and so has what the codec makes of it
+pub whole_eight : (form : Form) (bs ws : List ℕ) (k : ℕ) {r : List ℕ} → k < whole_in form bs ws → r ≡ record_in form bs ws k → length r ≡ 8
+unfolding whole_in record_in
+whole_eight File bs ws k h e = ap length e ∙ rw (file_length bs k) (omega arith)
+whole_eight Held bs ws k h e = ap length e ∙ rw (held_length ws k) (omega arith)
+
+pub held_eight : (bs : List ℕ) (k : ℕ) {r h : List ℕ} → 32 * k + 32 ≤ length bs → r ≡ file_record bs k → h ≡ held_of (kind_of r) r → (h ≡ held_at bs k) × (length h ≡ 8)
+unfolding held_at
+held_eight bs k {r} {h} l e f =
+    let n : length r ≡ 8 = ap length e ∙ file_length bs k ∙ eight (length bs) k l in
+    (rw e at f, ap length (f ∙ held_same (kind_of r) r) ∙ n)
+  where
+    eight : (n k : ℕ) → 32 * k + 32 ≤ n → min 32 (n - 32 * k) / 4 ≡ 8
+    eight n k l = omega arith
+
+pub file_eight : (ws : List ℕ) (k : ℕ) {r f : List ℕ} → 8 * k + 8 ≤ length ws → r ≡ held_record ws k → f ≡ file_of (kind_of r) r → (f ≡ file_at ws k) × (length f ≡ 8)
+unfolding file_at
+file_eight ws k {r} {f} l e g =
+    let n : length r ≡ 8 = ap length e ∙ held_length ws k ∙ eight (length ws) k l in
+    (rw e at g, ap length (g ∙ file_same (kind_of r) r) ∙ n)
+  where
+    eight : (n k : ℕ) → 8 * k + 8 ≤ n → min 8 (n - 8 * k) ≡ 8
+    eight n k l = omega arith
+
+-- a number that the test holds of is the least of one more, where none before it is
+least_next : (f : ℕ → Bool) (n : ℕ) → f n ≡ true → least f n ≡ least f (suc n)
+unfolding least
+least_next f zero e = rw e
+least_next f (suc n) e = ap (λ (k : ℕ). cond (f 0) 0 (suc k)) (least_next (λ k. f (suc k)) n e)
+
+-- the record after the whole ones is a part one, and so a bad one
+part_bad : (form : Form) (bs ws : List ℕ) → length (record_in form bs ws (whole_in form bs ws)) < 8
+unfolding record_in whole_in
+part_bad File bs ws = rw (file_length bs (length bs / 32)) (omega arith)
+part_bad Held bs ws = rw (held_length ws (length ws / 8)) (omega arith)
+
+whole_or_part : (form : Form) (bs ws : List ℕ) → (whole_in form bs ws ≤ count_in form bs ws) × (count_in form bs ws ≤ whole_in form bs ws + 1)
+unfolding whole_in count_in parts
+whole_or_part File bs ws = (omega arith, omega arith)
+whole_or_part Held bs ws = (omega arith, omega arith)
+
+-- so the first bad one of the whole records, or their number, is the first bad one of all
+module _ (form : Form) (bs ws : List ℕ) where
+  abbrev bad : ℕ → Bool
+  bad = bad_at form (record_in form bs ws)
+
+  pub first_of_all : (k : ℕ) → k ≡ least bad (whole_in form bs ws) → k ≡ least bad (count_in form bs ws)
+  unfolding bad_at bad_record
+  first_of_all k e =
+      elim (dec_lt (whole_in form bs ws) (count_in form bs ws)) [
+        | yes p ↦ (let c : count_in form bs ws ≡ suc (whole_in form bs ws) = omega (arith, whole_or_part form bs ws) in rw c (e ∙ least_next bad (whole_in form bs ws) (rw (lt-ltb _ 8 (part_bad form bs ws)))))
+        | no p ↦ (let c : count_in form bs ws ≡ whole_in form bs ws = omega (arith, whole_or_part form bs ws) in rw c e)
+      ]
