@@ -35,7 +35,7 @@ fn half_of(spans: &[u32], i: usize, p: Part) -> Part
     requires spans_len_bound { length spans.now ≤ 5120 }
     requires ends_rise { EndsRise spans.now (length spans.now / 5) }
     requires halved { Halved spans.now i (length spans.now / 5) p.low (p.low + p.size) }
-    ensures halved_2 { Halved spans.now i (length spans.now / 5) result.low (result.low + result.size) }
+    ensures halved_again { Halved spans.now i (length spans.now / 5) result.low (result.low + result.size) }
     ensures size_value { result.size ≡ (p.size + 1) / 2 }
 {
     if p.size < 2 {

@@ -206,7 +206,7 @@ impl Peak {
     // The peak after triangle t of height h, whose corners weigh w.
     fn higher(self, h: f32, t: usize, w: Weights) -> Peak
         ensures best_value { result.best ≡ higher_of self.best h t }
-        ensures fact { (result ≡ self) ⊎ ((result.best ≡ At h t) × (result.weights ≡ w)) }
+        ensures weights_kept { (result ≡ self) ⊎ ((result.best ≡ At h t) × (result.weights ≡ w)) }
     {
         let best = self.best;
         if let Best::At(held, k) = best {
@@ -404,8 +404,8 @@ fn low_turns(
     requires passing { Passing vertices.now indices.now x y run.now from n low.now }
     requires best_value { before.best ≡ scan_of vertices.now indices.now x y (entry_of run.now) from }
     requires peak_weighed { PeakWeighed vertices.now indices.now x y before }
-    ensures best_value_2 { result.best ≡ scan_of vertices.now indices.now x y (entry_of run.now) (from + n) }
-    ensures peak_weighed_2 { PeakWeighed vertices.now indices.now x y result }
+    ensures best_after { result.best ≡ scan_of vertices.now indices.now x y (entry_of run.now) (from + n) }
+    ensures peak_after { PeakWeighed vertices.now indices.now x y result }
 {
     let mut peak = before;
     for k in 0..n {

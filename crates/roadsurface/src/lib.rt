@@ -53,7 +53,7 @@ fn ground_mesh(
     ensures result_value { let g = ground ring.now (grid_if there grid) rows.now left.now right.now in
         let before = mesh_lists vertices.old normals.old indices.old [] in
         read_ground result ≡ ground_answer g before }
-    ensures after_after { let g = ground ring.now (grid_if there grid) rows.now left.now right.now in
+    ensures mesh_after { let g = ground ring.now (grid_if there grid) rows.now left.now right.now in
         let before = mesh_lists vertices.old normals.old indices.old [] in
         let after = mesh_lists vertices.new normals.new indices.new [] in
         after ≡ leaves_mesh (ground_answer g before) (ground_mesh g) before }
@@ -188,7 +188,7 @@ pub extern "C" fn rs_junction_mesh(
     ensures result_value { let g = ground ring.now (grid_if has_grid (grid_of origin_x origin_y sin cos start spacing)) rows.now left.now right.now in
         let before = mesh_lists vertices.old normals.old indices.old [] in
         result ≡ code_of (λ n. n) (ground_answer g before) }
-    ensures after_after { let g = ground ring.now (grid_if has_grid (grid_of origin_x origin_y sin cos start spacing)) rows.now left.now right.now in
+    ensures mesh_after { let g = ground ring.now (grid_if has_grid (grid_of origin_x origin_y sin cos start spacing)) rows.now left.now right.now in
         let before = mesh_lists vertices.old normals.old indices.old [] in
         let after = mesh_lists vertices.new normals.new indices.new [] in
         after ≡ leaves_mesh (ground_answer g before) (ground_mesh g) before }

@@ -21,8 +21,8 @@ fn guess(n: u64) -> u64
 
 // The whole root of n, searched one by one from g.
 fn root_from(n: u64, g: u64) -> u64
-    requires fact_1 { n < 2 ^ 54 }
-    requires fact_2 { g < 2 ^ 28 }
+    requires n_bound { n < 2 ^ 54 }
+    requires g_bound { g < 2 ^ 28 }
     ensures { Root result n }
 {
     let mut r = g;
@@ -54,8 +54,8 @@ fn root(n: u64) -> u64
 // The whole root of h * 2^54: s is that of h, its upper half, and the lower half q is what is left
 // of h divided by twice s, or one less.
 fn root_wide(h: u64) -> u64
-    requires fact_1 { 2 ^ 52 ≤ h }
-    requires fact_2 { h < 2 ^ 54 }
+    requires h_least { 2 ^ 52 ≤ h }
+    requires h_bound { h < 2 ^ 54 }
     ensures { Root result (h * 2 ^ 54) }
 {
     let s = root(h);
@@ -81,10 +81,10 @@ fn root_digits(y: u64, n: u64) -> u64
 // The bits of the root of m * 2^k times the smallest value of the format with p digits and the
 // largest exponent e.
 fn root_of(p: u64, e: u64, m: u64, k: u64) -> u64
-    requires fact_1 { Shaped p e }
-    requires fact_2 { 0 < m }
-    requires fact_3 { m < 2 ^ p }
-    requires fact_4 { k < 2 * e }
+    requires shaped { Shaped p e }
+    requires m_some { 0 < m }
+    requires m_bound { m < 2 ^ p }
+    requires k_bound { k < 2 * e }
     ensures { (f : Format) → prec f ≡ p → emax f ≡ e → Rooted f (root_of f (m * 2 ^ k) (2 ^ low f)) result }
 {
     let z = (u64::leading_zeros(m) as u64) - (64 - p);
@@ -97,9 +97,9 @@ fn root_of(p: u64, e: u64, m: u64, k: u64) -> u64
 // The bits of the root of the number with the bits b, which is finite and above zero, in the format
 // with p digits and the largest exponent e.
 fn root_bits(p: u64, e: u64, b: u64) -> u64
-    requires fact_1 { Shaped p e }
-    requires fact_2 { 0 < b }
-    requires fact_3 { b < (2 * e + 1) * 2 ^ (p - 1) }
+    requires shaped { Shaped p e }
+    requires b_some { 0 < b }
+    requires b_finite { b < (2 * e + 1) * 2 ^ (p - 1) }
     ensures { (f : Format) → prec f ≡ p → emax f ≡ e → Rooted f (sqrt_of f (from_bits f b)) result }
 {
     let lead: u64 = 1 << (p - 1);
@@ -389,8 +389,8 @@ fn trial(b: u64) -> u64
 // The bits of the root of the normal `f32` with the bits b. The digits v are moved up by 24 places, under
 // an odd field of the exponent by 23. The trial r is right where v and its square are at most r apart.
 fn root_normal(b: u64) -> u64
-    requires fact_1 { 2 ^ 23 ≤ b }
-    requires fact_2 { b < 255 * 2 ^ 23 }
+    requires b_normal { 2 ^ 23 ≤ b }
+    requires b_finite { b < 255 * 2 ^ 23 }
     ensures { Rooted binary32 (sqrt_of binary32 (from_bits binary32 b)) result }
 {
     let field = b >> 23;
@@ -424,8 +424,8 @@ pub struct Near {
 // The root of x, if x lies next to 1: the first 19 bits of x, to the nearest, are those of 1. Lengths of
 // directions have such roots.
 pub fn root_near_one(x: f32) -> Near
-    ensures fact_1 { result.is ≡ near_one x }
-    ensures fact_2 { result.root ≡ (if near_one x then sqrt_of binary32 x else x) }
+    ensures is_value { result.is ≡ near_one x }
+    ensures root_value { result.root ≡ (if near_one x then sqrt_of binary32 x else x) }
 {
     if x != x {
         return Near { is: false, root: x };

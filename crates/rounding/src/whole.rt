@@ -32,8 +32,8 @@ fn limit(way: u64, half: u64, one: u64) -> u64
 
 // The bits of the whole number that the number with the bits b goes to, both without their signs.
 fn whole_bits(p: u64, e: u64, b: u64, way: u64) -> u64
-    requires fact_1 { Shaped p e }
-    requires fact_2 { b < (2 * e + 1) * 2 ^ (p - 1) }
+    requires shaped { Shaped p e }
+    requires b_finite { b < (2 * e + 1) * 2 ^ (p - 1) }
     ensures { (f : Format) (s : Bool) → prec f ≡ p → emax f ≡ e → Wholes f s (way_of way) b result }
 {
     let lead: u64 = 1 << (p - 1);

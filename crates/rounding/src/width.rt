@@ -7,9 +7,9 @@ ghost use Rattle.rounding.specs.Steps.{Narrows, Widens};
 
 // q / 2^s to the nearest whole number, a tie to the even one.
 fn nearest_even(q: u64, s: u64) -> u64
-    requires fact_1 { q < 2 ^ 53 }
-    requires fact_2 { 1 ≤ s }
-    requires fact_3 { s ≤ 63 }
+    requires q_bound { q < 2 ^ 53 }
+    requires s_least { 1 ≤ s }
+    requires s_most { s ≤ 63 }
     ensures { result ≡ closest q (2 ^ s) }
 {
     let odd = (q >> s) & 1;

@@ -90,8 +90,8 @@ fn blocks_it(ring: &[f32], a: usize, b: usize, c: usize, p: usize) -> bool
 
 // Does any point left?
 fn any_blocks(ring: &[f32], left: &[u32], a: usize, b: usize, c: usize) -> bool
-    requires fact_1 { (a < length ring.now / 3) × (b < length ring.now / 3) × (c < length ring.now / 3) }
-    requires fact_2 { Within (length ring.now / 3) left.now }
+    requires corners_in_ring { (a < length ring.now / 3) × (b < length ring.now / 3) × (c < length ring.now / 3) }
+    requires left_in_ring { Within (length ring.now / 3) left.now }
     ensures { result ≡ any (blocks_at ring.now left.now a b c) (length left.now) }
 {
     let mut m: usize = 0;
@@ -117,8 +117,8 @@ fn turns_left(ring: &[f32], a: usize, b: usize, c: usize) -> bool
 
 // Are the points a, b, c an ear of those left?
 fn is_triangle(ring: &[f32], left: &[u32], a: usize, b: usize, c: usize) -> bool
-    requires fact_1 { (a < length ring.now / 3) × (b < length ring.now / 3) × (c < length ring.now / 3) }
-    requires fact_2 { Within (length ring.now / 3) left.now }
+    requires corners_in_ring { (a < length ring.now / 3) × (b < length ring.now / 3) × (c < length ring.now / 3) }
+    requires left_in_ring { Within (length ring.now / 3) left.now }
     ensures { result ≡ ear_of ring.now left.now a b c }
 {
     if turns_left(ring, a, b, c) {
@@ -129,8 +129,8 @@ fn is_triangle(ring: &[f32], left: &[u32], a: usize, b: usize, c: usize) -> bool
 
 // Is there an ear at position k?
 fn is_ear(ring: &[f32], left: &[u32], k: usize) -> bool
-    requires fact_1 { (k < length left.now) × (length left.now ≤ max_ring) }
-    requires fact_2 { Within (length ring.now / 3) left.now }
+    requires k_in_left { (k < length left.now) × (length left.now ≤ max_ring) }
+    requires left_in_ring { Within (length ring.now / 3) left.now }
     ensures { result ≡ is_ear ring.now left.now k }
 {
     let n = left.len();
@@ -141,8 +141,8 @@ fn is_ear(ring: &[f32], left: &[u32], k: usize) -> bool
 
 // The first position with an ear, or the number of points left where there is none.
 fn first_ear(ring: &[f32], left: &[u32]) -> usize
-    requires fact_1 { length left.now ≤ max_ring }
-    requires fact_2 { Within (length ring.now / 3) left.now }
+    requires left_few { length left.now ≤ max_ring }
+    requires left_in_ring { Within (length ring.now / 3) left.now }
     ensures { (result ≡ first_ear ring.now left.now) × (result ≤ length left.now) }
 {
     let mut k: usize = 0;
@@ -205,8 +205,8 @@ fn remove(left: &mut [u32], n: usize, k: usize)
 
 // The first ear of the n points left is put from `at` on, and its corner taken out.
 fn cut_ear(ring: &[f32], left: &mut [u32], n: usize, ears: &mut [u32], at: usize) -> usize
-    requires fact_1 { (n ≤ length left.old) × (n ≤ max_ring) × (at + 3 ≤ length ears.old) }
-    requires fact_2 { Within (length ring.now / 3) (take n left.old) }
+    requires room { (n ≤ length left.old) × (n ≤ max_ring) × (at + 3 ≤ length ears.old) }
+    requires left_in_ring { Within (length ring.now / 3) (take n left.old) }
     ensures { Cut ring.now n left.old left.new ears.old ears.new at result }
 {
     let k = first_ear(ring, &left[..n]);
@@ -220,8 +220,8 @@ fn cut_ear(ring: &[f32], left: &mut [u32], n: usize, ears: &mut [u32], at: usize
 
 // The last three points left, if they are three and turn left, from `at` on.
 fn put_last(ring: &[f32], left: &[u32], ears: &mut [u32], at: usize) -> usize
-    requires fact_1 { at + length left.now ≤ length ears.old }
-    requires fact_2 { Within (length ring.now / 3) left.now }
+    requires room { at + length left.now ≤ length ears.old }
+    requires left_in_ring { Within (length ring.now / 3) left.now }
     ensures { Put ears.old ears.new at (last_ear ring.now left.now) result }
 {
     if left.len() != 3 {
@@ -235,8 +235,8 @@ fn put_last(ring: &[f32], left: &[u32], ears: &mut [u32], at: usize) -> usize
 
 // The ears of the first `points` numbers of `left`, at the front of `ears`.
 fn cut_all(ring: &[f32], left: &mut [u32], points: usize, ears: &mut [u32]) -> usize
-    requires fact_1 { (points ≤ length left.old) × (points ≤ max_ring) × (3 * points ≤ length ears.old) }
-    requires fact_2 { Within (length ring.now / 3) (take points left.old) }
+    requires room { (points ≤ length left.old) × (points ≤ max_ring) × (3 * points ≤ length ears.old) }
+    requires left_in_ring { Within (length ring.now / 3) (take points left.old) }
     ensures { Put ears.old ears.new 0 (cut_ears ring.now (points - 3) (take points left.old)) result }
 {
     let mut n = points;

@@ -90,8 +90,8 @@ fn parts(a: Point, b: Point, c: Point, step: f64) -> usize
 
 // Ear k of a ring.
 fn ear_at(ring: &[f32], ears: &[u32], k: usize, step: f64) -> Ear
-    requires fact_1 { 3 * k + 2 < length ears.now }
-    requires fact_2 { Within (length ring.now / 3) ears.now }
+    requires k_in_ears { 3 * k + 2 < length ears.now }
+    requires ears_in_ring { Within (length ring.now / 3) ears.now }
     ensures { (result ≡ ear_cut step ring.now ears.now k) × (result.n ≤ 64) }
 {
     let at = 3 * k;
@@ -161,8 +161,8 @@ fn put_thrice(out: &mut [f32], at: usize, v: Vector) -> usize
 // A triangle with its own vertices, and its normal at each.
 fn push(vertices: &mut [f32], normals: &mut [f32], at: usize, a: Point, b: Point, c: Point) -> usize
     requires { (at + 9 ≤ length vertices.old) × (at + 9 ≤ length normals.old) }
-    ensures put { Put vertices.old vertices.new at (corner_coords a b c) result }
-    ensures put_2 { Put normals.old normals.new at (face_normals a b c) result }
+    ensures vertices_put { Put vertices.old vertices.new at (corner_coords a b c) result }
+    ensures normals_put { Put normals.old normals.new at (face_normals a b c) result }
 {
     put_corners(vertices, at, a, b, c);
     put_thrice(normals, at, face(a, b, c))
@@ -172,8 +172,8 @@ fn push(vertices: &mut [f32], normals: &mut [f32], at: usize, a: Point, b: Point
 
 // How many vertices the triangles of the ears have.
 fn count_vertices(ring: &[f32], ears: &[u32], step: f64) -> usize
-    requires fact_1 { length ears.now ≤ 3 * max_ring }
-    requires fact_2 { Within (length ring.now / 3) ears.now }
+    requires ears_few { length ears.now ≤ 3 * max_ring }
+    requires ears_in_ring { Within (length ring.now / 3) ears.now }
     ensures { (result ≡ vertex_count step ring.now ears.now) × (result ≤ 12288 * max_ring) }
 {
     let mut total: usize = 0;
@@ -237,8 +237,8 @@ fn lifted(
     i: usize,
     j: usize,
 ) -> Point
-    requires fact_1 { Limits rows.now most }
-    requires fact_2 { (e.n < 2 ^ 32) × (i < 2 ^ 32) × (j < 2 ^ 32) }
+    requires limits { Limits rows.now most }
+    requires ear_bounds { (e.n < 2 ^ 32) × (i < 2 ^ 32) × (j < 2 ^ 32) }
     ensures { result ≡ lift_of grid rows.now left.now right.now (lattice e i j) }
 {
     let p = lattice_point(e, i, j);
@@ -268,13 +268,12 @@ fn put_row(
     normals: &mut [f32],
     from: usize,
 ) -> usize
-    requires fact_1 { let to = from + 18 * (e.n - i) in
-        Limits rows.now most }
-    requires fact_2 { let to = from + 18 * (e.n - i) in
+    requires limits { Limits rows.now most }
+    requires room { let to = from + 18 * (e.n - i) in
         (i < e.n) × (e.n ≤ 64) × (to ≤ length vertices.old + 9) × (to ≤ length normals.old + 9) }
-    ensures fact { let lift = lift_of grid rows.now left.now right.now in
+    ensures vertices_put { let lift = lift_of grid rows.now left.now right.now in
         Put vertices.old vertices.new from (row_of corner_coords (λ (x y : ℕ). lift (lattice e x y)) e.n i) result }
-    ensures fact_2 { let lift = lift_of grid rows.now left.now right.now in
+    ensures normals_put { let lift = lift_of grid rows.now left.now right.now in
         Put normals.old normals.new from (row_of face_normals (λ (x y : ℕ). lift (lattice e x y)) e.n i) result }
 {
     let n = e.n;
@@ -307,10 +306,10 @@ fn put_split(
     normals: &mut [f32],
     from: usize,
 ) -> usize
-    requires fact_1 { Limits rows.now most }
-    requires fact_2 { (e.n ≤ 64) × (from + 9 * (e.n * e.n) ≤ length vertices.old) × (from + 9 * (e.n * e.n) ≤ length normals.old) }
-    ensures put { Put vertices.old vertices.new from (ear_mesh corner_coords (lift_of grid rows.now left.now right.now) e) result }
-    ensures put_2 { Put normals.old normals.new from (ear_mesh face_normals (lift_of grid rows.now left.now right.now) e) result }
+    requires limits { Limits rows.now most }
+    requires room { (e.n ≤ 64) × (from + 9 * (e.n * e.n) ≤ length vertices.old) × (from + 9 * (e.n * e.n) ≤ length normals.old) }
+    ensures vertices_put { Put vertices.old vertices.new from (ear_mesh corner_coords (lift_of grid rows.now left.now right.now) e) result }
+    ensures normals_put { Put normals.old normals.new from (ear_mesh face_normals (lift_of grid rows.now left.now right.now) e) result }
 {
     let n = e.n;
     let mut at = from;
@@ -334,16 +333,14 @@ fn put_ears(
     vertices: &mut [f32],
     normals: &mut [f32],
 ) -> usize
-    requires fact_1 { let many = vertex_count (spacing_of grid) ring.now ears.now in
-        Limits rows.now most }
-    requires fact_2 { let many = vertex_count (spacing_of grid) ring.now ears.now in
-        Within (length ring.now / 3) ears.now }
-    requires fact_3 { let many = vertex_count (spacing_of grid) ring.now ears.now in
+    requires limits { Limits rows.now most }
+    requires ears_in_ring { Within (length ring.now / 3) ears.now }
+    requires room { let many = vertex_count (spacing_of grid) ring.now ears.now in
         (length ears.now ≤ 3 * max_ring) × (3 * many ≤ length vertices.old) × (3 * many ≤ length normals.old) }
-    ensures fact { let lift = lift_of grid rows.now left.now right.now in
+    ensures vertices_put { let lift = lift_of grid rows.now left.now right.now in
         let made = ears_mesh corner_coords lift (spacing_of grid) ring.now ears.now in
         Put vertices.old vertices.new 0 made result }
-    ensures fact_2 { let lift = lift_of grid rows.now left.now right.now in
+    ensures normals_put { let lift = lift_of grid rows.now left.now right.now in
         let made = ears_mesh face_normals lift (spacing_of grid) ring.now ears.now in
         Put normals.old normals.new 0 made result }
 {
@@ -370,12 +367,12 @@ fn mesh_checked(
     normals: &mut [f32],
     indices: &mut [u32],
 ) -> JunctionAnswer
-    requires fact_1 { Limits rows.now most }
-    requires fact_2 { length ring.now ≤ 3 * max_ring }
+    requires limits { Limits rows.now most }
+    requires ring_few { length ring.now ≤ 3 * max_ring }
     ensures result_value { let g = ground ring.now grid rows.now left.now right.now in
         let before = mesh_lists vertices.old normals.old indices.old [] in
         read_ground result ≡ ground_result g before }
-    ensures after_after { let g = ground ring.now grid rows.now left.now right.now in
+    ensures mesh_after { let g = ground ring.now grid rows.now left.now right.now in
         let before = mesh_lists vertices.old normals.old indices.old [] in
         let after = mesh_lists vertices.new normals.new indices.new [] in
         after ≡ leaves_mesh (ground_result g before) (ground_mesh g) before }
@@ -425,7 +422,7 @@ pub fn mesh(
     ensures result_value { let g = ground ring.now grid rows.now left.now right.now in
         let before = mesh_lists vertices.old normals.old indices.old [] in
         read_ground result ≡ ground_answer g before }
-    ensures after_after { let g = ground ring.now grid rows.now left.now right.now in
+    ensures mesh_after { let g = ground ring.now grid rows.now left.now right.now in
         let before = mesh_lists vertices.old normals.old indices.old [] in
         let after = mesh_lists vertices.new normals.new indices.new [] in
         after ≡ leaves_mesh (ground_answer g before) (ground_mesh g) before }

@@ -272,7 +272,7 @@ fn next_solid(segments: &[u32], k: usize) -> usize
 
 // Is the first segment that is not empty, s with the number k, reversed? With no second it is not.
 fn first_turns(segments: &[u32], points: &[f32], s: &[f32], k: usize) -> bool
-    requires fact { let ws = segments.now in
+    requires at_segment { let ws = segments.now in
         (k < length ws / 2) × (start_of 2 0 ws k < end_of 2 0 ws k) × (length (solid ws k) ≡ 0)
         × (s.now ≡ segment_of ws points.now k) }
     requires sound_lists { SoundLists segments.now points.now }
@@ -289,7 +289,7 @@ fn first_turns(segments: &[u32], points: &[f32], s: &[f32], k: usize) -> bool
 
 // How segment s, with the number k and not empty, is joined to the ring that j tells of.
 fn turn_at(segments: &[u32], points: &[f32], s: &[f32], j: Joined, k: usize) -> Turn
-    requires fact { let ws = segments.now in
+    requires at_segment { let ws = segments.now in
         (k < length ws / 2) × (start_of 2 0 ws k < end_of 2 0 ws k) × (j.segments ≡ length (solid ws k))
         × (s.now ≡ segment_of ws points.now k) × GapCovers j.gap }
     requires sound_lists { SoundLists segments.now points.now }
@@ -367,7 +367,7 @@ fn append(s: &[f32], back: bool, line: &mut [f32], from: RingSoFar) -> RingSoFar
 
 // Segment k, unless it is empty. It is passed on as its part of the list of points.
 fn join_step(segments: &[u32], points: &[f32], line: &mut [f32], j: Joined, k: usize) -> Joined
-    requires fact { let ws = segments.now in
+    requires at_segment { let ws = segments.now in
         (k < length ws / 2) × (length points.now ≤ length line.old) × (j.ring.count ≤ last_end 2 0 ws k)
         × (j.segments ≡ length (solid ws k)) × GapCovers j.gap }
     requires sound_lists { SoundLists segments.now points.now }

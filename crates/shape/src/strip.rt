@@ -41,8 +41,8 @@ fn put_ups(out: &mut [f32], at: usize, v: Vector) -> usize
 // The two vertices of a rib, left edge first, and their normals.
 fn put_rib(vertices: &mut [f32], normals: &mut [f32], at: usize, r: Rib) -> usize
     requires { (at + 6 ≤ length vertices.old) × (at + 6 ≤ length normals.old) }
-    ensures put { Put vertices.old vertices.new at (six_of r.left r.right) result }
-    ensures put_2 { Put normals.old normals.new at (ups_of r.up) result }
+    ensures vertices_put { Put vertices.old vertices.new at (six_of r.left r.right) result }
+    ensures normals_put { Put normals.old normals.new at (ups_of r.up) result }
 {
     put_six(vertices, at, r.left, r.right);
     put_ups(normals, at, r.up)
@@ -132,7 +132,7 @@ fn put_ribs(
     indices: &mut [u32],
     at: At,
 ) -> At
-    requires fact { let n = length ks.now in
+    requires room { let n = length ks.now in
         (0 < n) × (at.floats + 6 * n ≤ length vertices.old) × (at.floats + 6 * n ≤ length normals.old)
         × (at.floats / 3 + 2 * n < 4294967290) }
     requires ks_in_bounds { at.index + length (indices_of (at.floats / 3) (lane_of points.now tangents.now widths.now banks.now width) ks.now) ≤ length indices.old }

@@ -74,9 +74,9 @@ fn is_kept(square: f32, last: f32) -> bool
 // Point i, after those that `h` tells of.
 fn weld_step(points: &[f32], kept: &mut [u32], h: Welding, i: usize) -> Welding
     requires { (h.last < i) × (i < 2 ^ 32) × (h.count < length kept.old) × (h.count < 2 ^ 32) }
-    ensures fact { let k = keeps points.now h.last (sqrt_of binary32 h.square) i in
+    ensures step_value { let k = keeps points.now h.last (sqrt_of binary32 h.square) i in
         (result.last ≡ (if k then i else h.last)) × (sqrt_of binary32 result.square ≡ (if k then step_of points.now h.last i else sqrt_of binary32 h.square)) }
-    ensures fact_2 { let k = keeps points.now h.last (sqrt_of binary32 h.square) i in
+    ensures put { let k = keeps points.now h.last (sqrt_of binary32 h.square) i in
         Put kept.old kept.new h.count (if k then h.last ∷ [] else []) result.count }
 {
     let d = point_at(points, i).sub(point_at(points, h.last));
