@@ -226,7 +226,7 @@ pub extern "C" fn rs_surface_mesh(
     ensures result_value { let g = given points.now tangents.now widths.now banks.now lanes.now in
         let before = mesh_lists vertices.old normals.old indices.old spans.old in
         result ≡ code_of (λ m. m.vertices) (answer_of g before) }
-    ensures after_after { let g = given points.now tangents.now widths.now banks.now lanes.now in
+    ensures mesh_after { let g = given points.now tangents.now widths.now banks.now lanes.now in
         let before = mesh_lists vertices.old normals.old indices.old spans.old in
         let after = mesh_lists vertices.new normals.new indices.new spans.new in
         after ≡ leaves_mesh (answer_of g before) (mesh_of g) before }
