@@ -1,4 +1,6 @@
 // The two height lookups over a mesh, and the index that serves the second.
+#![tactic(auto)]
+
 pub mod batch;
 pub mod boxes;
 pub mod build_fast;

@@ -2,6 +2,8 @@
 // function that it names. A slice is a pointer and a length in C, and a number lent as `&mut` a pointer. What is
 // returned is a code: of a call that is turned back the refusal's number * 2^32 + its place, else the call's
 // count. A call that is turned back leaves every number and every slice as it was.
+#![tactic(auto)]
+
 ghost use Rattle.std.specs.Prelude.{◌≡◌, [], length};
 ghost use Rattle.shape.specs.Refusal.{judge, taken, leaves};
 ghost use Rattle.shape.specs.Lists.{mesh_lists, mesh_fault};

@@ -1,6 +1,8 @@
 // The rounding layer for programs in other languages: each exported function is a thin call of the
 // function of that name. The forms over arrays are there to measure the root without the cost of a
 // call for each number.
+#![tactic(auto)]
+
 ghost use Rattle.std.specs.Prelude.{◌≡◌, min, length};
 ghost use Rattle.std.specs.Float.{binary32, binary64};
 ghost use Rattle.std.specs.Float.Ieee.{to_unsigned, to_signed};

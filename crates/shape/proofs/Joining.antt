@@ -19,51 +19,7 @@ use Rattle.shape.specs.Memory.{Put}
 use Rattle.shape.specs.Refusal.{fine, fault, refuse, judge, leaves, number_of, place_of}
 use Rattle.shape.proofs.Laws.Refusal.{passed, else_passed}
 use Rattle.shape.specs.Lists.{longer, uneven, point_at, start_of, end_of, last_end, run_bad, run_of}
-use Rattle.shape.specs.Outline.{
-  reach_of,
-  place_from,
-  point_from,
-  first_of,
-  final_of,
-  solid_at,
-  solid,
-  solids,
-  segment_of,
-  segment_at,
-  origin,
-  head_of,
-  last_of,
-  is_new,
-  added,
-  extended,
-  turns_first,
-  turns_later,
-  turns_at,
-  gap_at,
-  Line,
-  joined,
-  closing,
-  closed_up,
-  side_at,
-  area_to,
-  reversed_at,
-  reversed,
-  flat,
-  widest,
-  whole_line,
-  dropped_of,
-  ring_of,
-  turned_of,
-  result_of,
-  outline_of,
-  outline_limits,
-  outline_ragged,
-  outline_fault,
-  short_fault,
-  outline_answer,
-  read_outline,
-  Outlines,
-}
+use Rattle.shape.specs.Outline.{reach_of, place_from, point_from, first_of, final_of, solid_at, solid, segment_of, segment_at, origin, head_of, last_of, is_new, added, extended, turns_first, turns_later, turns_at, gap_at, Line, joined, closing, closed_up, side_at, area_to, reversed_at, reversed, flat, widest, whole_line, dropped_of, ring_of, turned_of, result_of, outline_of, outline_limits, outline_ragged, outline_fault, short_fault, outline_answer, read_outline, Outlines}
 use Rattle.shape.specs.OutlineSteps.{SoundLists, Holds, Joins}
 use Rattle.shape.proofs.Laws.Gather.{gather_next, gather_fits, gather_even}
 use Rattle.shape.proofs.Laws.Lists.{Sound, sound}

@@ -1,4 +1,6 @@
 // What is made of lanes, boundaries and elevation grids, and when a call is turned back.
+#![tactic(auto)]
+
 pub mod ears;
 pub mod elevation;
 pub mod junction;

@@ -1,5 +1,5 @@
 -- The extent of a mesh's boxes holds each of them, NaN bounds passed over; its bounds are singles; and the cell's side is at least 1e-3. Assumes nothing.
-use Rattle.std.specs.Prelude.{◌≡◌, ℕ, zero, suc, ◌/◌, ◌<◌, Bool, true, false, cond, ◌&&◌, T, ◌⊎◌, List, length, pos, nat_lt, refl, Float}
+use Rattle.std.specs.Prelude.{◌≡◌, ℕ, zero, suc, ◌/◌, ◌<◌, Bool, true, false, cond, ◌&&◌, T, List, length, pos, nat_lt, refl, Float}
 use Rattle.std.proofs.Common.{sym, ap, ◌∙◌, subst, ⊎_elim, not-suc-le-zero, eq-or-lt_of_le, le_of_suc-le-suc, arith, ltb-true}
 use Rattle.std.specs.Float.{fin}
 use Rattle.std.specs.Float.Ieee.{binary32, fits, of_bits, eq, le}

@@ -1,5 +1,5 @@
 -- `lookup::build_fast::keep_first` meets its contract: up to 64 blocks more are kept in each turn. Assumes nothing.
-use Rattle.std.proofs.Common.{◌≡◌, ℕ, ◌+◌, ◌-◌, ◌*◌, ◌≤◌, List, ◌++◌, length, take, drop, refl, ap, ◌∙◌, subst, arith, length-append, length-drop, length-take, rules}
+use Rattle.std.proofs.Common.{◌≡◌, ℕ, ◌+◌, ◌-◌, ◌*◌, ◌≤◌, ◌++◌, length, take, drop, refl, ap, ◌∙◌, subst, arith, length-append, length-drop, length-take, rules}
 use Rattle.lookup.specs.Index.{blocks_of}
 use Rattle.lookup.specs.Steps.{Kept, from}
 use Rattle.lookup.proofs.Blocks.{kept_on}

@@ -1,5 +1,5 @@
 -- `shape::ears::copy` meets its contract: the first i words are copied. Assumes nothing.
-use Rattle.std.proofs.Common.{◌≡◌, ◌+◌, ◌-◌, ◌≤◌, ◌++◌, length, take, drop, refl, arith, length-set}
+use Rattle.std.proofs.Common.{◌≡◌, ◌-◌, ◌≤◌, ◌++◌, length, take, drop, refl, arith, length-set}
 use Rattle.shape.proofs.Laws.Ears.{copied_next}
 use Rattle.shape.proofs.ears.copy.Statement.{statement}
 use Rattle.shape.proofs.ears.copy.Tie as tie
