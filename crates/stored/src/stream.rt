@@ -113,8 +113,8 @@ fn read_full(input: &mut impl Read, bytes: &mut [u8]) -> usize
     done
 }
 
-// Fills the buffer anew. Its length is a multiple of 4, and it is left short only where the input ends, so
-// no word lies across two reads.
+// Fills the buffer anew. Its length is a multiple of 4, and it is left short only where the input ends or a
+// read fails, so no word lies across two reads.
 fn fill(input: &mut impl Read, bytes: &mut [u8], p: Cursor) -> Cursor {
     let got = read_full(input, bytes);
     Cursor {
