@@ -1,10 +1,8 @@
 -- What is located and scanned picks the case of `top_of`. Assumes nothing.
-use Rattle.std.proofs.Common.{◌≡◌, ℕ, ◌-◌, List, length, take, drop, sym, arith}
+use Rattle.std.proofs.Common.{◌≡◌, ℕ, ◌-◌, List, length, take, drop, sym, arith, Option, Some, None}
 use lib.Ieee.{Float}
 use Rattle.shape.specs.Refusal.{fine, fault, judge, taken, refused}
 use Rattle.shape.specs.Lists.{Mesh}
-use Rattle.lookup.specs.declared.mesh.Best.{Best}
-use Rattle.lookup.specs.declared.mesh.Best.TheVariants.{At, Nothing}
 use Rattle.lookup.specs.Mesh.{triangles}
 use Rattle.lookup.specs.Plain.{scan_of, entry_of}
 use Rattle.lookup.specs.Consult.{run_in, nowhere, run, consult_of}
@@ -30,15 +28,15 @@ module _ (m : Mesh) (ws : List ℕ) (x y : Float) (f : top_fault m ws ≡ fine) 
   unfolding top_of judge onward sample_in sample_of scan_of run_in
   nothing g = rw (f, ← g)
 
-  pub gives : {a e : ℕ} → taken (run a e) ≡ consult_of ws (triangles m.indices) x y → {r : List ℕ} → r ≡ take (e - a) (drop a ws) → {s : Best}
+  pub gives : {a e : ℕ} → taken (run a e) ≡ consult_of ws (triangles m.indices) x y → {r : List ℕ} → r ≡ take (e - a) (drop a ws) → {s : Option (Float × ℕ)}
       → s ≡ scan_of m.vertices m.indices x y (entry_of r) (length r) → taken (sample_of m x y s) ≡ top_of m ws x y
   unfolding top_of judge onward sample_in run_in
   gives g u v = rw (f, ← g, ← u, ← v)
 
   -- the triangle is one of the mesh
-  pub small : {r : List ℕ} (q : List ℕ) → r ≡ q → (s : Best) → s ≡ scan_of m.vertices m.indices x y (entry_of r) (length r) → Small s
+  pub small : {r : List ℕ} (q : List ℕ) → r ≡ q → (s : Option (Float × ℕ)) → s ≡ scan_of m.vertices m.indices x y (entry_of r) (length r) → Small s
   unfolding Small
-  small {r} q u (At h t) v =
+  small {r} q u (Some (h, t)) v =
       let l = covers_below m x y t (scan_found m.vertices m.indices x y (entry_of r) (length r) (sym v)).counted in
       omega (arith, l, ordered.indices)
-  small q u Nothing v = tt
+  small q u None v = tt

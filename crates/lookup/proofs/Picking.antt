@@ -1,5 +1,5 @@
 -- The box around corners, and around two boxes, by comparisons that are right where the first of two is a number. Assumes nothing.
-use Rattle.std.proofs.Common.{◌≡◌, ℕ, Bool, true, false, List, sym, ap, ◌∙◌, subst, true≢false}
+use Rattle.std.proofs.Common.{◌≡◌, ℕ, Bool, true, false, List, sym, ap, ◌∙◌, subst, true≢false, Option, Some, None}
 use lib.Ieee.{Float, nan, inf, fin, binary32, add, lt, le, eq, ne, is_nan}
 use lib.Ieee.Bits.{is_true, is_false}
 use Rattle.rounding.specs.Extremes.{first, ge, min_of, max_of}
@@ -10,14 +10,10 @@ use Rattle.vector.specs.declared.coords.Point.{Point}
 use Rattle.lookup.specs.Mesh.{corners_of}
 use Rattle.lookup.specs.Box.{around_of, slack_of, grown_of, grown_box, box_of, merge_of}
 use Rattle.lookup.specs.Index.{block_of, blocks_of}
-use Rattle.lookup.specs.declared.mesh.Fetch.{Fetch}
-use Rattle.lookup.specs.declared.mesh.Fetch.TheVariants.{Corners, Missing}
 use Rattle.lookup.specs.declared.frame.Frame.{Frame}
 use Rattle.lookup.specs.declared.frame.Block.{Block}
 use Rattle.lookup.specs.Steps.{Picked, Sound}
 use Rattle.lookup.specs.declared.boxes.Aabb.{Aabb}
-use Rattle.lookup.specs.declared.boxes.Boxed.{Boxed}
-use Rattle.lookup.specs.declared.boxes.Boxed.TheVariants.{Box, None}
 
 -- ---- two numbers
 
@@ -116,35 +112,35 @@ merged a b l m u v s L M U W = (
 
 -- ---- a box that is there, or not
 
-box_in : Aabb → Boxed → Aabb
-box_in d (Box b) = b
+box_in : Aabb → (Option Aabb) → Aabb
+box_in d (Some b) = b
 box_in d None = d
 
-IsBox : Boxed → Type 0
-IsBox (Box b) = Unit {0}
+IsBox : (Option Aabb) → Type 0
+IsBox (Some b) = Unit {0}
 IsBox None = ⊥
 
-pub box_inj : (a b : Aabb) → Box a ≡ Box b → b ≡ a
+pub box_inj : (a b : Aabb) → Some a ≡ Some b → b ≡ a
 unfolding box_in
 box_inj a b e = sym (ap (box_in a) e)
 
-pub none_no_box : {P : Type 0} (b : Aabb) → None ≡ Box b → P
+pub none_no_box : {P : Type 0} (b : Aabb) → None ≡ Some b → P
 unfolding IsBox
 none_no_box b e = absurd (subst IsBox (sym e) tt)
 
 -- ---- the box of a triangle whose corners are there
 
-pub box_quick : (vs : List Float) (is : List ℕ) (t : ℕ) (a b c : Point) (e g : Aabb) → corners_of vs is t ≡ Corners a b c → e ≡ around_of a b c → g ≡ grown_of e → box_of vs is t ≡ Box g
+pub box_quick : (vs : List Float) (is : List ℕ) (t : ℕ) (a b c : Point) (e g : Aabb) → corners_of vs is t ≡ Some (a, b, c) → e ≡ around_of a b c → g ≡ grown_of e → box_of vs is t ≡ Some g
 unfolding box_of grown_box
-box_quick vs is t a b c e g h i j = ap grown_box h ∙ ap (λ (x : Aabb). Box (grown_of x)) (sym i) ∙ ap Box (sym j)
+box_quick vs is t a b c e g h i j = ap grown_box h ∙ ap (λ (x : Aabb). Some (grown_of x)) (sym i) ∙ ap Some (sym j)
 
 pub block_quick :
-    (vs : List Float) (is : List ℕ) (f : Frame) (t : ℕ) (a b c : Point) (e g : Aabb) (r : Block) → corners_of vs is t ≡ Corners a b c →
-    e ≡ around_of a b c → g ≡ grown_of e → r ≡ block_of f (Box g) → r ≡ blocks_of vs is f t
+    (vs : List Float) (is : List ℕ) (f : Frame) (t : ℕ) (a b c : Point) (e g : Aabb) (r : Block) → corners_of vs is t ≡ Some (a, b, c) →
+    e ≡ around_of a b c → g ≡ grown_of e → r ≡ block_of f (Some g) → r ≡ blocks_of vs is f t
 unfolding blocks_of
 block_quick vs is f t a b c e g r h i j k = k ∙ ap (block_of f) (sym (box_quick vs is t a b c e g h i j))
 
 -- and the block of one that is missing
-pub block_missing : (vs : List Float) (is : List ℕ) (f : Frame) (t : ℕ) → Missing ≡ corners_of vs is t → ◌≡◌ {A = Block} (record { left = 1; right = 0; low = 1; high = 0 }) (blocks_of vs is f t)
+pub block_missing : (vs : List Float) (is : List ℕ) (f : Frame) (t : ℕ) → None ≡ corners_of vs is t → ◌≡◌ {A = Block} (record { left = 1; right = 0; low = 1; high = 0 }) (blocks_of vs is f t)
 unfolding blocks_of block_of box_of grown_box
-block_missing vs is f t h = ap (λ (x : Fetch). block_of f (grown_box x)) h
+block_missing vs is f t h = ap (λ (x : (Option (Point × Point × Point))). block_of f (grown_box x)) h

@@ -1,5 +1,6 @@
 -- How far a box may reach from the column of its lower bound: what the walk over the columns knows, and how many entries there may then be. Assumes nothing.
-use Rattle.std.proofs.Common.{◌≡◌, ℕ, zero, suc, ◌+◌, ◌-◌, ◌*◌, ◌^◌, ◌<◌, ◌≤◌, true, false, T, List, refl, inl, inr, zero-le, mul-le-mul, arith}
+use Rattle.std.proofs.Common.{◌≡◌, ℕ, zero, suc, ◌+◌, ◌-◌, ◌*◌, ◌^◌, ◌<◌, ◌≤◌, true, false, T, List, refl, inl, inr, zero-le, mul-le-mul, arith, Option, Some, None}
+use Rattle.vector.specs.declared.coords.Point.{Point}
 use lib.Ieee.{Float, nan, inf, fin, binary32, add, sub, lt, le, fits}
 use lib.Ieee.Fits.{add-fits}
 use Rattle.lookup.specs.Column.{col}
@@ -16,11 +17,7 @@ use Rattle.lookup.specs.Steps.{Framed, Fits, Narrow}
 use Rattle.lookup.proofs.Laws.Parts.{start_le}
 use Rattle.lookup.proofs.Laws.Cells.{start_area}
 use Rattle.lookup.proofs.Laws.Frames.{inside_of}
-use Rattle.lookup.specs.declared.mesh.Fetch.{Fetch}
-use Rattle.lookup.specs.declared.mesh.Fetch.TheVariants.{Corners, Missing}
 use Rattle.lookup.specs.declared.boxes.Aabb.{Aabb}
-use Rattle.lookup.specs.declared.boxes.Boxed.{Boxed}
-use Rattle.lookup.specs.declared.boxes.Boxed.TheVariants.{Box, None}
 use Rattle.lookup.specs.declared.frame.Frame.{Frame}
 
 -- ---- sums with w
@@ -138,14 +135,14 @@ reaches_wide m cell count width w h g = (λ lo hi fit l. h.0 lo hi fit (lt_of_le
 -- ---- the entries
 
 -- the format holds the upper bounds of a box
-abbrev HeldBox : Boxed → Type 0
-HeldBox (Box e) = T (fits binary32 e.max_x) × T (fits binary32 e.max_y)
+abbrev HeldBox : (Option Aabb) → Type 0
+HeldBox (Some e) = T (fits binary32 e.max_x) × T (fits binary32 e.max_y)
 HeldBox None = Unit {0}
 
-held_grown : (g : Fetch) → HeldBox (grown_box g)
+held_grown : (g : (Option (Point × Point × Point))) → HeldBox (grown_box g)
 unfolding grown_box
-held_grown (Corners a b c) = (add-fits binary32 _ _, add-fits binary32 _ _)
-held_grown Missing = tt
+held_grown (Some (a, b, c)) = (add-fits binary32 _ _, add-fits binary32 _ _)
+held_grown None = tt
 
 held_box : (vs : List Float) (is : List ℕ) (t : ℕ) → HeldBox (box_of vs is t)
 unfolding box_of
@@ -158,10 +155,10 @@ another : (p q a b t s : ℕ) → s ≡ p + q → p ≤ (a + 1) * (b + 1) * t �
 another p q a b t s e h k = omega arith
 
 module _ (f : Frame) (width height : Float) (a b : ℕ) (x : Reaches f.min_x f.cell f.cols (UpTo width) a) (y : Reaches f.min_y f.cell f.rows (UpTo height) b) where
-  block_few : (g : Boxed) → HeldBox g → ((e : Aabb) → g ≡ Box e → Fits e width height)
+  block_few : (g : (Option Aabb)) → HeldBox g → ((e : Aabb) → g ≡ Some e → Fits e width height)
       → ((block_of f g).high + 1 - (block_of f g).low) * ((block_of f g).right + 1 - (block_of f g).left) ≤ (b + 1) * (a + 1)
   unfolding block_of
-  block_few (Box e) h k =
+  block_few (Some e) h k =
       sides _ _ a _ _ b (x.0 e.min_x e.max_x h.0 (k e refl).wide) (y.0 e.min_y e.max_y h.1 (k e refl).high)
   block_few None h k = zero-le
 

@@ -1,6 +1,6 @@
 -- Small cases of the indexed lookup, computed: document 01's case of a point past the rim, which the plain lookup answers and the indexed one does not, the
 -- lanes of triangles, the words of records, and the order in which a call for many points is judged. Assumes nothing.
-use Rattle.std.specs.Prelude.{◌≡◌, ℕ, ◌≤◌, List, [], ◌∷◌, length, ◌≢◌, to_bits, refl, Float}
+use Rattle.std.specs.Prelude.{◌≡◌, ℕ, ◌≤◌, List, [], ◌∷◌, length, ◌≢◌, to_bits, refl, Float, Some, None}
 use Rattle.std.proofs.Common.{ap, ◌∙◌}
 use Rattle.std.specs.Float.{binary32}
 use Rattle.std.specs.Float.Ieee.{add, sub, mul, div, lt, le, eq, neg, of_bits}
@@ -10,7 +10,6 @@ use Rattle.shape.specs.Refusal.{taken, refused, refuse, or_else, judge}
 use Rattle.shape.specs.Lists.{Mesh, mesh_lists, point_at, word_of, longer, uneven, run_bad, mesh_limits, mesh_ragged}
 use Rattle.vector.specs.Single.{single, 0f, 1f}
 use Rattle.vector.specs.declared.coords.Vector.{Vector}
-use Rattle.lookup.specs.declared.lane.Lane.TheVariants.{Id, None}
 use Rattle.lookup.specs.Mesh.{present, corners_of}
 use Rattle.lookup.specs.Cover.{covers, weights_at, weights_of, det_of, over_a, weight_a, weight_b, weights_inside}
 use Rattle.lookup.specs.Plain.{scan_of, Lookup, none, answer_of}
@@ -54,13 +53,13 @@ indexed_none ws b l = top_taken rim ws b px py l ∙ ap (λ (run : List ℕ). ta
 abbrev spans : List ℕ
 spans = 7 ∷ 0 ∷ 4 ∷ 0 ∷ 6 ∷ 9 ∷ 4 ∷ 4 ∷ 6 ∷ 6 ∷ 4 ∷ 4 ∷ 8 ∷ 9 ∷ 12 ∷ []
 
-lanes : (lane_of spans 0 ≡ Id 7) × (lane_of spans 1 ≡ Id 7) × (lane_of spans 2 ≡ None) × (lane_of spans 3 ≡ Id 4) × (lane_of spans 4 ≡ None)
+lanes : (lane_of spans 0 ≡ Some 7) × (lane_of spans 1 ≡ Some 7) × (lane_of spans 2 ≡ None) × (lane_of spans 3 ≡ Some 4) × (lane_of spans 4 ≡ None)
 unfolding lane_of past_of word_of
 lanes = (refl, refl, refl, refl, refl)
 
 -- the words of each kind of record
 found : (h : Float) (n : Vector) (t id : ℕ)
-    → record_of (taken (hit h n t (record { lane = Id id })))
+    → record_of (taken (hit h n t (record { lane = Some id })))
     ≡ 1 ∷ to_bits binary32 h ∷ to_bits binary32 n.x ∷ to_bits binary32 n.y ∷ to_bits binary32 n.z ∷ t ∷ 1 ∷ id ∷ []
 unfolding record_of
 found h n t id = refl

@@ -1,5 +1,5 @@
--- The steps by which `highest_in` goes through a run, sixteen triangles at a time, and what `locate` says of it. Assumes nothing.
-use Rattle.std.proofs.Common.{◌≡◌, ℕ, zero, suc, ◌+◌, ◌-◌, ◌*◌, ◌<◌, ◌≤◌, Bool, true, false, ◌&&◌, ◌⊎◌, List, length, get_or, take, drop, set, sym, refl, ap, ◌∙◌, subst, ⊎_elim, le_of_suc-le-suc, eq-or-lt_of_le, add-one, arith, length-drop, length-set, length-take-le, get_or-drop, get_or-set_other, get_or-take, get_or-set_same}
+-- The steps by which `highest` goes through a run, sixteen triangles at a time, and what `locate` says of it. Assumes nothing.
+use Rattle.std.proofs.Common.{◌≡◌, ℕ, zero, suc, ◌+◌, ◌-◌, ◌*◌, ◌<◌, ◌≤◌, Bool, true, false, ◌&&◌, ◌⊎◌, List, length, get_or, take, drop, set, sym, refl, ap, ◌∙◌, subst, ⊎_elim, le_of_suc-le-suc, eq-or-lt_of_le, add-one, arith, length-drop, length-set, length-take-le, get_or-drop, get_or-set_other, get_or-take, get_or-set_same, Option, Some, None, Result, Ok, Err}
 use native.Mathlib.Decide.{dec_lt}
 use lib.Ieee.{Float, nan, lt}
 use Rattle.rounding.proofs.Laws.Order.{T_of}
@@ -7,11 +7,6 @@ use Rattle.vector.specs.Single.{0f}
 use Rattle.vector.specs.declared.coords.Point.{Point}
 use Rattle.shape.specs.Refusal.{fine, Answer, taken, refused, number_of, place_of}
 use Rattle.shape.specs.declared.refusal.Refusal.{Refusal}
-use Rattle.lookup.specs.declared.consult.Consulted.{Consulted}
-use Rattle.lookup.specs.declared.consult.Consulted.TheVariants.{Run, Nowhere, Refused}
-use Rattle.lookup.specs.declared.mesh.Fetch.TheVariants.{Corners, Missing}
-use Rattle.lookup.specs.declared.mesh.Best.{Best}
-use Rattle.lookup.specs.declared.mesh.Best.TheVariants.{At, Nothing}
 use Rattle.lookup.specs.declared.mesh.Weights.{Weights}
 use Rattle.lookup.specs.declared.mesh.Peak.{Peak}
 use Rattle.lookup.specs.Mesh.{present, corners_of, triangles}
@@ -86,7 +81,7 @@ module _ (vs : List Float) (is : List ℕ) where
   unfolding covers weights_at
   held_out x y h o = rw (h.there, ← ground_weights x y h.first h.second h.third, o)
 
-  fetched : (t : ℕ) {a b c p q r : Point} → Corners a b c ≡ corners_of vs is t → Over p a → Over q b → Over r c → CornersUnder vs is t p q r
+  fetched : (t : ℕ) {a b c p q r : Point} → corners_of vs is t ≡ Some (a, b, c) → Over p a → Over q b → Over r c → CornersUnder vs is t p q r
   fetched t e f g h =
       let w = there vs is t e in
       record { there = w.0; first = subst (Over _) w.1 f; second = subst (Over _) w.2 g; third = subst (Over _) w.3 h }
@@ -95,7 +90,7 @@ module _ (vs : List Float) (is : List ℕ) where
   pub gather_step : (run : List ℕ) (from k : ℕ) {a b c a' b' c' : List Float} {p q r : Point} {t : ℕ} {whole : Bool}
       → Gathered vs is run from k a b c whole
       → t ≡ entry_of run (from + k)
-      → Corners p q r ≡ corners_of vs is t
+      → corners_of vs is t ≡ Some (p, q, r)
       → Grounded a a' k p
       → Grounded b b' k q
       → Grounded c c' k r
@@ -111,7 +106,7 @@ module _ (vs : List Float) (is : List ℕ) where
       }
 
   pub gather_pass : (run : List ℕ) (from k : ℕ) {a b c : List Float} {t : ℕ} {whole : Bool}
-      → Gathered vs is run from k a b c whole → t ≡ entry_of run (from + k) → Missing ≡ corners_of vs is t → Gathered vs is run from (k + 1) a b c false
+      → Gathered vs is run from k a b c whole → t ≡ entry_of run (from + k) → corners_of vs is t ≡ None → Gathered vs is run from (k + 1) a b c false
   gather_pass run from k {a} {b} {c} {t = t} old same e =
       let none : There vs is run (from + k) → ⊥ = λ p. true_not_false (sym p ∙ subst (λ (t : ℕ). present vs is t ≡ false) same (missing vs is t e)) in
       record {
@@ -150,30 +145,30 @@ weighed vs is x y run from n m a b c low whole le g lows =
 -- ---- the weights of the best
 
 module _ (vs : List Float) (is : List ℕ) (x y : Float) where
-  pub weighed_none : {p : Peak} → p.best ≡ Nothing → PeakWeighed vs is x y p
+  pub weighed_none : {p : Peak} → p.best ≡ None → PeakWeighed vs is x y p
   weighed_none e h t a = absurd (let z : ◌≡◌ {A = ℕ} 0 1 = cc in omega arith)
 
   pub weighed_next : {p r : Peak} {h : Float} {t : ℕ} {w : Weights} → PeakWeighed vs is x y p → Weighs vs is x y t w
-      → (r ≡ p) ⊎ ((r.best ≡ At h t) × (r.weights ≡ w)) → PeakWeighed vs is x y r
+      → (r ≡ p) ⊎ ((r.best ≡ Some (h, t)) × (r.weights ≡ w)) → PeakWeighed vs is x y r
   weighed_next {p} {r} {h} {t} {w} old new =
-      ⊎_elim (λ (e : r ≡ p). subst (PeakWeighed vs is x y) (sym e) old) (λ (e : (r.best ≡ At h t) × (r.weights ≡ w)) g u a.
+      ⊎_elim (λ (e : r ≡ p). subst (PeakWeighed vs is x y) (sym e) old) (λ (e : (r.best ≡ Some (h, t)) × (r.weights ≡ w)) g u a.
       let z : t ≡ u = at_same (sym e.0 ∙ a) in
       subst (λ (u : ℕ). Weighs vs is x y u r.weights) z (subst (Weighs vs is x y t) (sym e.1) new))
     where
-      at_same : {g k : Float} {i j : ℕ} → At g i ≡ At k j → i ≡ j
-      at_same e = cc
+      at_same : {a b : Float × ℕ} → Some a ≡ Some b → a.1 ≡ b.1
+      at_same {a} {b} e = let k : a ≡ b = cc in ap (λ (p : Float × ℕ). p.1) k
 
-  pub weighs : {t : ℕ} {a b c : Point} {w : Weights} → Corners a b c ≡ corners_of vs is t → w ≡ weights_of a b c x y → Weighs vs is x y t w
+  pub weighs : {t : ℕ} {a b c : Point} {w : Weights} → corners_of vs is t ≡ Some (a, b, c) → w ≡ weights_of a b c x y → Weighs vs is x y t w
   weighs {t} f e = record { there = (there vs is t f).0; same = e ∙ weights_are vs is t x y f }
 
-pub pass_next : (vs : List Float) (is : List ℕ) (x y : Float) (best : Best) (seq : ℕ → ℕ) (i j : ℕ)
+pub pass_next : (vs : List Float) (is : List ℕ) (x y : Float) (best : Option (Float × ℕ)) (seq : ℕ → ℕ) (i j : ℕ)
     → best ≡ scan_of vs is x y seq i → covers vs is (seq i) x y ≡ false → j ≡ suc i → best ≡ scan_of vs is x y seq j
 unfolding scan_of
 pass_next vs is x y best seq i j e o n = rw (n, o) e
 
 -- ---- the run
 
-pub hit_step : (vs : List Float) (is : List ℕ) (x y : Float) (run : List ℕ) (i n : ℕ) {best next : Best} {whole part all : Bool} {low : List Float}
+pub hit_step : (vs : List Float) (is : List ℕ) (x y : Float) (run : List ℕ) (i n : ℕ) {best next : Option (Float × ℕ)} {whole part all : Bool} {low : List Float}
     → HitOf vs is x y run i best whole
     → Weighed vs is x y run i n low part
     → all ≡ (whole && part)
@@ -199,15 +194,15 @@ run_sound vs is ws a e run same room all =
 
 -- ---- what is located
 
-module _ (ws : List ℕ) (count : ℕ) {answer : Answer Candidates} {d : Consulted} (s : Started ws count answer d) where
-  pub refused_is : {r : Refusal} → d ≡ Refused r → refused (number_of r) (place_of r) ≡ answer
+module _ (ws : List ℕ) (count : ℕ) {answer : Answer Candidates} {d : Result (Option (ℕ × ℕ)) Refusal} (s : Started ws count answer d) where
+  pub refused_is : {r : Refusal} → d ≡ Err r → refused (number_of r) (place_of r) ≡ answer
   unfolding Started
   refused_is e = subst (Started ws count answer) e s
 
-  pub nowhere_is : d ≡ Nowhere → taken nowhere ≡ answer
+  pub nowhere_is : d ≡ (Ok None) → taken nowhere ≡ answer
   unfolding Started
   nowhere_is e = subst (Started ws count answer) e s
 
-  pub run_is : {a e : ℕ} → d ≡ Run a e → Runs ws count answer a e
+  pub run_is : {a e : ℕ} → d ≡ Ok (Some (a, e)) → Runs ws count answer a e
   unfolding Started
   run_is e = subst (Started ws count answer) e s

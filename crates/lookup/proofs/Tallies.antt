@@ -1,5 +1,5 @@
 -- One triangle more is tallied: whatever it is, and where the extent so far has no NaN. Assumes nothing.
-use Rattle.std.proofs.Common.{◌≡◌, ℕ, zero, suc, ◌+◌, ◌<◌, ◌≤◌, Bool, true, false, cond, not, T, ltb, List, sym, refl, ap, ◌∙◌, subst, true≢false, add-zero, add-one, arith, ltb→lt, nltb→le}
+use Rattle.std.proofs.Common.{◌≡◌, ℕ, zero, suc, ◌+◌, ◌<◌, ◌≤◌, Bool, true, false, cond, not, T, ltb, List, sym, refl, ap, ◌∙◌, subst, true≢false, add-zero, add-one, arith, ltb→lt, nltb→le, Option, Some, None}
 use lib.Ieee.{Float, of_bits, ne, le, is_nan}
 use Rattle.rounding.specs.Extremes.{first, ge, min_of, max_of}
 use Rattle.rounding.proofs.Laws.Order.{le_trans, num_of_same}
@@ -12,15 +12,12 @@ use Rattle.lookup.specs.Mesh.{triangles, corners_of}
 use Rattle.lookup.specs.Box.{around_of, grown_of, grown_box, box_of, merge_of}
 use Rattle.lookup.specs.Frame.{join_of, one_of, boxes_of, extent_of}
 use Rattle.lookup.specs.Steps.{Picked, Sound, Tallied, Fits, Narrow}
-use Rattle.lookup.specs.declared.mesh.Fetch.TheVariants.{Corners, Missing}
 use Rattle.lookup.specs.declared.boxes.Aabb.{Aabb}
-use Rattle.lookup.specs.declared.boxes.Boxed.{Boxed}
-use Rattle.lookup.specs.declared.boxes.Boxed.TheVariants.{Box, None}
 use Rattle.lookup.proofs.Picking.{box_inj, none_no_box, box_quick, grown_back}
 
-pub one_le : (b : Boxed) → one_of b ≤ 1
+pub one_le : (b : (Option Aabb)) → one_of b ≤ 1
 unfolding one_of
-one_le (Box b) = omega arith
+one_le (Some b) = omega arith
 one_le None = omega arith
 
 pub boxes_le : (vs : List Float) (is : List ℕ) (t : ℕ) → boxes_of vs is t ≤ t
@@ -29,30 +26,30 @@ boxes_le vs is zero = omega arith
 boxes_le vs is (suc t) = omega (arith, boxes_le vs is t, one_le (box_of vs is t))
 
 -- the box of a triangle whose corners are there, and of one that is missing
-pub box_there : (vs : List Float) (is : List ℕ) (t : ℕ) (a b c : Point) (e g : Aabb) → Corners a b c ≡ corners_of vs is t → e ≡ around_of a b c → g ≡ grown_of e → box_of vs is t ≡ Box g
+pub box_there : (vs : List Float) (is : List ℕ) (t : ℕ) (a b c : Point) (e g : Aabb) → Some (a, b, c) ≡ corners_of vs is t → e ≡ around_of a b c → g ≡ grown_of e → box_of vs is t ≡ Some g
 box_there vs is t a b c e g f i j = box_quick vs is t a b c e g (sym f) i j
 
-box_missing : (vs : List Float) (is : List ℕ) (t : ℕ) → Missing ≡ corners_of vs is t → box_of vs is t ≡ None
+box_missing : (vs : List Float) (is : List ℕ) (t : ℕ) → None ≡ corners_of vs is t → box_of vs is t ≡ None
 unfolding box_of grown_box
 box_missing vs is t f = ap grown_box (sym f)
 
-join_none : (e : Boxed) → join_of e None ≡ e
+join_none : (e : (Option Aabb)) → join_of e None ≡ e
 unfolding join_of
-join_none (Box a) = refl
+join_none (Some a) = refl
 join_none None = refl
 
-module _ (vs : List Float) (is : List ℕ) (t count : ℕ) (extent : Boxed) (h : Tallied vs is t count extent) where
-  pub tally_passed : Missing ≡ corners_of vs is t → Tallied vs is (t + 1) count extent
+module _ (vs : List Float) (is : List ℕ) (t count : ℕ) (extent : (Option Aabb)) (h : Tallied vs is t count extent) where
+  pub tally_passed : None ≡ corners_of vs is t → Tallied vs is (t + 1) count extent
   unfolding boxes_of extent_of one_of
   tally_passed f =
       let n = box_missing vs is t f in
       record { counts = rw (add-one t, n, add-zero (boxes_of vs is t)) h.counts; around = rw (add-one t, n, join_none (extent_of vs is t)) h.around }
 
-  pub tally_next : (g : Aabb) (j : Boxed) → box_of vs is t ≡ Box g → j ≡ join_of extent (Box g) → Tallied vs is (t + 1) (count + 1) j
+  pub tally_next : (g : Aabb) (j : (Option Aabb)) → box_of vs is t ≡ Some g → j ≡ join_of extent (Some g) → Tallied vs is (t + 1) (count + 1) j
   unfolding boxes_of extent_of one_of
   tally_next g j e q = record { counts = rw (add-one t, e, h.counts); around = rw (add-one t, e, ← h.around) q }
 
-tally_first : (vs : List Float) (is : List ℕ) (b : Aabb) → box_of vs is 0 ≡ Box b → Tallied vs is 1 1 (Box b)
+tally_first : (vs : List Float) (is : List ℕ) (b : Aabb) → box_of vs is 0 ≡ Some b → Tallied vs is 1 1 (Some b)
 unfolding boxes_of extent_of join_of one_of
 tally_first vs is b e = record { counts = rw e; around = rw e }
 
@@ -83,11 +80,11 @@ pub sized_none : (vs : List Float) (is : List ℕ) → Sized vs is 0 true 0f 0f
 sized_none vs is = record { num_w = zero_num; num_h = zero_num; fit = λ _ k l. absurd (omega arith) }
 
 module _ (vs : List Float) (is : List ℕ) (t : ℕ) (narrow : Bool) (width height : Float) (h : Sized vs is t narrow width height) where
-  pub sized_passed : Missing ≡ corners_of vs is t → Sized vs is (t + 1) narrow width height
+  pub sized_passed : None ≡ corners_of vs is t → Sized vs is (t + 1) narrow width height
   sized_passed f = record {
     num_w = h.num_w;
     num_h = h.num_h;
-    fit = λ n. one_more (λ (k : ℕ). (o : Aabb) → box_of vs is k ≡ Box o → Fits o width height) t (h.fit n) (λ o j. none_no_box o (sym (box_missing vs is t f) ∙ j));
+    fit = λ n. one_more (λ (k : ℕ). (o : Aabb) → box_of vs is k ≡ Some o → Fits o width height) t (h.fit n) (λ o j. none_no_box o (sym (box_missing vs is t f) ∙ j));
   }
 
   -- one whose sides are NaN
@@ -95,7 +92,7 @@ module _ (vs : List Float) (is : List ℕ) (t : ℕ) (narrow : Bool) (width heig
   sized_nan = record { num_w = h.num_w; num_h = h.num_h; fit = λ n. absurd (true≢false (sym n)) }
 
   -- one whose sides are numbers
-  pub sized_next : (g : Aabb) → box_of vs is t ≡ Box g → (r s : Float)
+  pub sized_next : (g : Aabb) → box_of vs is t ≡ Some g → (r s : Float)
       → (let both = (g.max_x ⊖ g.min_x) ⊕ (g.max_y ⊖ g.min_y) in ne both both ≡ false)
       → Picked max_of width (g.max_x ⊖ g.min_x) r → Picked max_of height (g.max_y ⊖ g.min_y) s → Sized vs is (t + 1) narrow r s
   sized_next g y r s n u v =
@@ -108,7 +105,7 @@ module _ (vs : List Float) (is : List ℕ) (t : ℕ) (narrow : Bool) (width heig
         num_w = u.num h.num_w;
         num_h = v.num h.num_h;
         fit =
-            λ b. one_more (λ (k : ℕ). (o : Aabb) → box_of vs is k ≡ Box o → Fits o r s) t
+            λ b. one_more (λ (k : ℕ). (o : Aabb) → box_of vs is k ≡ Some o → Fits o r s) t
             (λ k l o q. let d = h.fit b k l o q in record { wide = le_trans _ width r d.wide lw.0; high = le_trans _ height s d.high lh.0 })
             (λ o q. subst (λ (o : Aabb). Fits o r s) (sym (box_inj g o (sym y ∙ q))) (record { wide = lw.1; high = lh.1 }));
       }
@@ -143,7 +140,7 @@ pub record Measured (vs : List Float) (is : List ℕ) (start : Aabb) (t count : 
   pub sound : Sound extent
   pub few : count ≤ t
   pub none_yet : t ≡ 0 → (extent ≡ start) × (count ≡ 0)
-  pub tallied : narrow ≡ true → 0 < t → Tallied vs is t count (Box extent)
+  pub tallied : narrow ≡ true → 0 < t → Tallied vs is t count (Some extent)
   pub sized : Sized vs is t narrow width height
 
 pub measured_none : (vs : List Float) (is : List ℕ) (start : Aabb) → Sound start → Measured vs is start 0 0 start true 0f 0f
@@ -163,19 +160,19 @@ module _
     (x : Aabb)
     (narrow : Bool)
     (width height : Float)
-    (z : box_of vs is 0 ≡ Box start)
+    (z : box_of vs is 0 ≡ Some start)
     (h : Measured vs is start t count x narrow width height)
   where
     -- a triangle that is missing is not the first
-    not_first : (k : ℕ) → Missing ≡ corners_of vs is k → k ≡ 0 → ⊥
+    not_first : (k : ℕ) → None ≡ corners_of vs is k → k ≡ 0 → ⊥
     not_first k f e = none_no_box start (sym (box_missing vs is k f) ∙ ap (box_of vs is) e ∙ z)
 
-    pub measured_passed : Missing ≡ corners_of vs is t → Measured vs is start (t + 1) count x narrow width height
+    pub measured_passed : None ≡ corners_of vs is t → Measured vs is start (t + 1) count x narrow width height
     measured_passed f = record {
       sound = h.sound;
       few = omega (arith, h.few);
       none_yet = λ e. absurd (omega arith);
-      tallied = λ n _. tally_passed vs is t count (Box x) (h.tallied n (positive t (not_first t f))) f;
+      tallied = λ n _. tally_passed vs is t count (Some x) (h.tallied n (positive t (not_first t f))) f;
       sized = sized_passed vs is t narrow width height h.sized f;
     }
       where
@@ -184,14 +181,14 @@ module _
         positive (suc k) n = omega arith
 
     -- the extent of one more, which is the first or not
-    merged_next : narrow ≡ true → (k : ℕ) → k ≡ t → (g w : Aabb) → box_of vs is t ≡ Box g → w ≡ merge_of x g → Tallied vs is (t + 1) (count + 1) (Box w)
+    merged_next : narrow ≡ true → (k : ℕ) → k ≡ t → (g w : Aabb) → box_of vs is t ≡ Some g → w ≡ merge_of x g → Tallied vs is (t + 1) (count + 1) (Some w)
     unfolding join_of
     merged_next n zero q g w e j =
         let o = h.none_yet (sym q) in
         let p : g ≡ start = box_inj start g (sym z ∙ ap (box_of vs is) q ∙ e) in
         let y : w ≡ start = j ∙ rw (o.0, p) (merge_same start) in
         rw (o.1, ← q) (tally_first vs is w (rw y z))
-    merged_next n (suc k) q g w e j = tally_next vs is t count (Box x) (h.tallied n (omega arith)) g (Box w) e (ap Box j)
+    merged_next n (suc k) q g w e j = tally_next vs is t count (Some x) (h.tallied n (omega arith)) g (Some w) e (ap Some j)
 
     -- one whose sides are NaN, whatever is kept of it
     pub measured_nan : (w : Aabb) → Sound w → Measured vs is start (t + 1) (count + 1) w false width height
@@ -205,7 +202,7 @@ module _
 
     -- one whose sides are numbers, so that its corners could be compared
     pub measured_next : (a b c : Point) (e g w : Aabb)
-        → Corners a b c ≡ corners_of vs is t → (IsNum e.min_x → IsNum e.min_y → e ≡ around_of a b c) → g ≡ grown_of e → (w ≡ merge_of x g) × Sound w
+        → Some (a, b, c) ≡ corners_of vs is t → (IsNum e.min_x → IsNum e.min_y → e ≡ around_of a b c) → g ≡ grown_of e → (w ≡ merge_of x g) × Sound w
         → (r s : Float)
         → (let both = (g.max_x ⊖ g.min_x) ⊕ (g.max_y ⊖ g.min_y) in ne both both ≡ false)
         → Picked max_of width (g.max_x ⊖ g.min_x) r → Picked max_of height (g.max_y ⊖ g.min_y) s
@@ -218,7 +215,7 @@ module _
         let ph : IsNum high = add_num_right _ wide high p in
         let back = grown_back e g j in
         let o : e ≡ around_of a b c = i (back.0 (sub_num_right _ g.max_x g.min_x pw)) (back.1 (sub_num_right _ g.max_y g.min_y ph)) in
-        let y : box_of vs is t ≡ Box g = box_there vs is t a b c e g f o j in
+        let y : box_of vs is t ≡ Some g = box_there vs is t a b c e g f o j in
         record {
           sound = m.1;
           few = omega (arith, h.few);
@@ -229,7 +226,7 @@ module _
 
 pub measured_all : (vs : List Float) (is : List ℕ) (start : Aabb) (t count : ℕ) (extent : Aabb) (narrow : Bool) (width height : Float) → Measured vs is start t count extent narrow width height
     → t ≡ triangles is → 0 < triangles is
-    → (narrow ≡ true → Tallied vs is (triangles is) count (Box extent)) × (narrow ≡ true → Narrow vs is (triangles is) width height)
+    → (narrow ≡ true → Tallied vs is (triangles is) count (Some extent)) × (narrow ≡ true → Narrow vs is (triangles is) width height)
 measured_all vs is start t count extent narrow width height h e z =
     let k : Measured vs is start (triangles is) count extent narrow width height = subst (λ (m : ℕ). Measured vs is start m count extent narrow width height) e h in
     (λ n. k.tallied n z, k.sized.fit)

@@ -1,42 +1,39 @@
 -- What the fetch of a triangle's corners says of it, and how the scan goes on by one triangle. Assumes nothing.
-use Rattle.std.proofs.Common.{◌≡◌, ℕ, ◌+◌, Bool, true, false, cond, List, sym, refl, ap, ◌∙◌, add-one, arith}
+use Rattle.std.proofs.Common.{◌≡◌, ℕ, ◌+◌, Bool, true, false, cond, List, sym, refl, ap, ◌∙◌, add-one, Option, Some, None}
 use lib.Ieee.{Float}
 use Rattle.vector.specs.declared.coords.Point.{Point}
-use Rattle.lookup.specs.declared.mesh.Fetch.TheVariants.{Corners, Missing}
-use Rattle.lookup.specs.declared.mesh.Best.{Best}
 use Rattle.lookup.specs.Mesh.{present, corners_of, corner_of}
 use Rattle.lookup.specs.Cover.{covers, height_of, weights_of, weights_at, weights_inside, lift_of}
 use Rattle.lookup.specs.Plain.{scan_of, higher_of}
 
 -- ---- the fetch
 
-differ : {a b c : Point} → Corners a b c ≡ Missing → ⊥
-differ e = let z : ◌≡◌ {A = ℕ} 0 1 = cc in omega arith
+there_when : {A : Type 0} (p : Bool) {v w : A} → cond p (Some v) None ≡ Some w → (p ≡ true) × (v ≡ w)
+there_when true e = (refl, cc)
+there_when false e = cc
 
-there_when : (p : Bool) {a b c a' b' c' : Point} → Corners a b c ≡ cond p (Corners a' b' c') Missing → (p ≡ true) × (a ≡ a') × (b ≡ b') × (c ≡ c')
-there_when true e = (refl, cc, cc, cc)
-there_when false e = absurd (differ e)
-
-missing_when : (p : Bool) (a b c : Point) → Missing ≡ cond p (Corners a b c) Missing → p ≡ false
-missing_when true a b c e = absurd (differ (sym e))
-missing_when false a b c e = refl
+missing_when : {A : Type 0} (p : Bool) (v : A) → cond p (Some v) None ≡ None → p ≡ false
+missing_when true v e = cc
+missing_when false v e = refl
 
 module _ (vs : List Float) (is : List ℕ) (t : ℕ) where
-  pub there : {a b c : Point} → Corners a b c ≡ corners_of vs is t → (present vs is t ≡ true) × (a ≡ corner_of vs is t 0) × (b ≡ corner_of vs is t 1) × (c ≡ corner_of vs is t 2)
+  pub there : {a b c : Point} → corners_of vs is t ≡ Some (a, b, c) → (present vs is t ≡ true) × (a ≡ corner_of vs is t 0) × (b ≡ corner_of vs is t 1) × (c ≡ corner_of vs is t 2)
   unfolding corners_of
-  there e = there_when (present vs is t) e
+  there e =
+      let k = there_when (present vs is t) e in
+      (k.0, sym (ap (λ (p : Point × Point × Point). p.0) k.1), sym (ap (λ (p : Point × Point × Point). p.1) k.1), sym (ap (λ (p : Point × Point × Point). p.2) k.1))
 
-  pub missing : Missing ≡ corners_of vs is t → present vs is t ≡ false
+  pub missing : corners_of vs is t ≡ None → present vs is t ≡ false
   unfolding corners_of
-  missing e = missing_when (present vs is t) _ _ _ e
+  missing e = missing_when (present vs is t) _ e
 
-  pub weights_are : (x y : Float) {a b c : Point} → Corners a b c ≡ corners_of vs is t → weights_of a b c x y ≡ weights_at vs is t x y
+  pub weights_are : (x y : Float) {a b c : Point} → corners_of vs is t ≡ Some (a, b, c) → weights_of a b c x y ≡ weights_at vs is t x y
   unfolding weights_at
   weights_are x y f = let k = there f in rw (← k.1, ← k.2, ← k.3)
 
 -- ---- a turn of the scan
 
-module _ (vs : List Float) (is : List ℕ) (x y : Float) (seq : ℕ → ℕ) (i : ℕ) {t : ℕ} (same : t ≡ seq i) (best : Best) (e : best ≡ scan_of vs is x y seq i) where
+module _ (vs : List Float) (is : List ℕ) (x y : Float) (seq : ℕ → ℕ) (i : ℕ) {t : ℕ} (same : t ≡ seq i) (best : Option (Float × ℕ)) (e : best ≡ scan_of vs is x y seq i) where
   passed : covers vs is t x y ≡ false → best ≡ scan_of vs is x y seq (i + 1)
   unfolding scan_of
   passed h = rw (add-one, ← same, h) e
@@ -45,11 +42,11 @@ module _ (vs : List Float) (is : List ℕ) (x y : Float) (seq : ℕ → ℕ) (i 
   unfolding scan_of
   taken h = rw (add-one, ← same, h, e)
 
-  pub passed_missing : Missing ≡ corners_of vs is t → best ≡ scan_of vs is x y seq (i + 1)
+  pub passed_missing : corners_of vs is t ≡ None → best ≡ scan_of vs is x y seq (i + 1)
   unfolding covers
   passed_missing f = passed (rw (missing _ _ _ f))
 
-  module _ {a b c : Point} (f : Corners a b c ≡ corners_of vs is t) where
+  module _ {a b c : Point} (f : corners_of vs is t ≡ Some (a, b, c)) where
     pub passed_outside : weights_inside (weights_of a b c x y) ≡ false → best ≡ scan_of vs is x y seq (i + 1)
     unfolding covers
     passed_outside o = passed (rw ((there _ _ _ f).0, ← weights_are vs is t x y f, o))

@@ -1,14 +1,10 @@
 -- The indexed lookup at many points in one call: point by point the answer of the single call, as words. Definitions only. Assumes nothing.
-use Rattle.std.specs.Prelude.{ℕ, ◌+◌, ◌-◌, ◌*◌, ◌/◌, cond, List, [], ◌∷◌, ◌++◌, length, replicate, nat_lt, slice_index_or, Float}
+use Rattle.std.specs.Prelude.{ℕ, ◌+◌, ◌-◌, ◌*◌, ◌/◌, cond, List, [], ◌∷◌, ◌++◌, length, replicate, nat_lt, slice_index_or, Float, Option, Some, None}
 use Rattle.std.specs.Float.{nan, binary32}
 use Rattle.std.specs.Float.Ieee.{to_bits}
 use Rattle.shape.specs.Gather.{gather}
 use Rattle.shape.specs.Lists.{Mesh, uneven}
-use Rattle.shape.specs.Refusal.{fine, refuse, Answer, taken, refused, judge, number_of, place_of}
-use Rattle.lookup.specs.declared.lane.Lane.{Lane}
-use Rattle.lookup.specs.declared.lane.Lane.TheVariants.{Id, None}
-use Rattle.lookup.specs.declared.record.Sampling.{Sampling}
-use Rattle.lookup.specs.declared.record.Sampling.TheVariants.{Count, Refused}
+use Rattle.shape.specs.Refusal.{fine, refuse, Answer, taken, refused, judge}
 use Rattle.lookup.specs.Mesh.{triangles}
 use Rattle.lookup.specs.Consult.{head_fault}
 use Rattle.lookup.specs.Sampler.{Sample, hit, miss, top_fault, top_of}
@@ -24,12 +20,12 @@ unfoldable pub padded : List ℕ → List ℕ
 padded ws = ws ++ replicate (record_words - length ws) 0
 
 -- whether there is a lane, and its id
-unfoldable pub lane_there : Lane → ℕ
-lane_there (Id id) = 1
+unfoldable pub lane_there : Option ℕ → ℕ
+lane_there (Some id) = 1
 lane_there None = 0
 
-unfoldable pub lane_id : Lane → ℕ
-lane_id (Id id) = id
+unfoldable pub lane_id : Option ℕ → ℕ
+lane_id (Some id) = id
 lane_id None = 0
 
 -- found: 1, height, normal, triangle, whether there is a lane, lane; none: zeros; refused: 2, number, place. Floats by their bits, a NaN's as 7fc00000
@@ -77,12 +73,6 @@ tops_of m ws ps room =
     judge (top_fault m ws)
     (judge (refuse (uneven 2 ps) 2 5 fine)
     (judge (head_fault ws (triangles m.indices)) (count_answer ps room)))
-
--- document 01's values of each case of the code's
-unfoldable pub read_sampling : Sampling → Answer ℕ
-unfolding number_of place_of
-read_sampling (Count n) = taken n
-read_sampling (Refused r) = refused (number_of r) (place_of r)
 
 -- a number as a word of 32 bits, one past the greatest cut to it
 unfoldable pub word_for : ℕ → ℕ

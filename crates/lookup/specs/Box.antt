@@ -1,16 +1,12 @@
 -- Document 01, "Height under a wheel": a triangle's grown box. It runs from the least to the greatest x and y of its corners, each bound moved out by 1e-4
 -- times (width in x + height in y), rounded in the Rust's order. Definitions only. Assumes nothing.
-use Rattle.std.specs.Prelude.{ℕ, Bool, false, ◌&&◌, List, Float}
+use Rattle.std.specs.Prelude.{ℕ, Bool, false, ◌&&◌, List, Float, Option, Some, None}
 use Rattle.std.specs.Float.Ieee.{le}
 use Rattle.rounding.specs.Extremes.{min_of, max_of}
 use Rattle.vector.specs.Single.{◌⊕◌, ◌⊖◌, ◌⊗◌, single}
 use Rattle.vector.specs.declared.coords.Point.{Point}
 use Rattle.lookup.specs.Mesh.{corners_of}
-use Rattle.lookup.specs.declared.mesh.Fetch.{Fetch}
-use Rattle.lookup.specs.declared.mesh.Fetch.TheVariants.{Corners, Missing}
 use Rattle.lookup.specs.declared.boxes.Aabb.{Aabb}
-use Rattle.lookup.specs.declared.boxes.Boxed.{Boxed}
-use Rattle.lookup.specs.declared.boxes.Boxed.TheVariants.{Box, None}
 
 -- from the least to the greatest x and y of three corners
 unfoldable pub around_of : Point → Point → Point → Aabb
@@ -38,13 +34,13 @@ grown_of b =
       max_y = b.max_y ⊕ slack_of b;
     }
 
-unfoldable pub grown_box : Fetch → Boxed
+unfoldable pub grown_box : Option (Point × Point × Point) → Option Aabb
 unfolding around_of grown_of
-grown_box (Corners a b c) = Box (grown_of (around_of a b c))
-grown_box Missing = None
+grown_box (Some (a, b, c)) = Some (grown_of (around_of a b c))
+grown_box None = None
 
 -- the grown box of triangle t; none if a corner is past the vertices
-unfoldable pub box_of : List Float → List ℕ → ℕ → Boxed
+unfoldable pub box_of : List Float → List ℕ → ℕ → Option Aabb
 unfolding grown_box corners_of
 box_of vs is t = grown_box (corners_of vs is t)
 
@@ -52,9 +48,9 @@ box_of vs is t = grown_box (corners_of vs is t)
 unfoldable pub within : Aabb → Float → Float → Bool
 within b x y = (le b.min_x x && le x b.max_x) && (le b.min_y y && le y b.max_y)
 
-unfoldable pub in_boxed : Boxed → Float → Float → Bool
+unfoldable pub in_boxed : Option Aabb → Float → Float → Bool
 unfolding within
-in_boxed (Box b) x y = within b x y
+in_boxed (Some b) x y = within b x y
 in_boxed None x y = false
 
 unfoldable pub in_box : List Float → List ℕ → ℕ → Float → Float → Bool

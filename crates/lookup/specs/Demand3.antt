@@ -1,13 +1,11 @@
 -- Document 01, "Words of demand 3": what it is for an index to be built from a mesh and for a triangle to be in a lane's strip, and the demand itself.
 -- Definitions only. Assumes nothing.
-use Rattle.std.specs.Prelude.{◌≡◌, ℕ, ◌+◌, ◌*◌, ◌<◌, ◌≤◌, true, T, ◌↔◌, List, length, take, ◌≢◌, Float}
+use Rattle.std.specs.Prelude.{◌≡◌, ℕ, ◌+◌, ◌*◌, ◌<◌, ◌≤◌, true, T, ◌↔◌, List, length, take, ◌≢◌, Float, Option, Some}
 use Rattle.std.specs.Float.Ieee.{le}
 use Rattle.vector.specs.declared.coords.Vector.{Vector}
 use Rattle.shape.specs.Lists.{Mesh, word_of, mesh_fault}
 use Rattle.shape.specs.Refusal.{fine, taken, refused, leaves}
 use Rattle.shape.specs.SurfaceMesh.{Given, lanes_of, index_of, mesh_of}
-use Rattle.lookup.specs.declared.lane.Lane.{Lane}
-use Rattle.lookup.specs.declared.lane.Lane.TheVariants.{Id}
 use Rattle.lookup.specs.declared.sampler.Detail.{Detail}
 use Rattle.lookup.specs.Box.{in_box}
 use Rattle.lookup.specs.Plain.{Lookup, gives, none, answer_of}
@@ -36,10 +34,10 @@ abbrev pub id_of : Given → ℕ → ℕ
 id_of g k = word_of 10 g.lanes k 0
 
 -- a lane is the one whose strip holds triangle t
-pub record NamesLane (g : Given) (t : ℕ) (l : Lane) : Type 0 where
+pub record NamesLane (g : Given) (t : ℕ) (l : Option ℕ) : Type 0 where
   pub of : ℕ
   pub in_strip : InStrip g t of
-  pub named : l ≡ Id (id_of g of)
+  pub named : l ≡ Some (id_of g of)
 
 -- ---- the demand
 

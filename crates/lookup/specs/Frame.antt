@@ -1,6 +1,6 @@
 -- Document 01, "Height under a wheel": the frame of the index's grid, as `Grid::build` makes it: the extent of the boxes, the side of a cell, and how many
 -- cells there are on each side. Each operation rounds once, in the Rust's order. Definitions only. Assumes nothing.
-use Rattle.std.specs.Prelude.{ℕ, zero, suc, ◌+◌, min, max, List, pos, Float}
+use Rattle.std.specs.Prelude.{ℕ, zero, suc, ◌+◌, min, max, List, pos, Float, Option, Some, None}
 use Rattle.std.specs.Float.{binary32}
 use Rattle.std.specs.Float.Ieee.{to_unsigned, of_int}
 use Rattle.rounding.specs.Extremes.{min_of, max_of}
@@ -9,26 +9,24 @@ use Rattle.rounding.specs.Whole.{whole_of, ceil_of}
 use Rattle.vector.specs.Single.{◌⊖◌, ◌⊗◌, ◌⊘◌, single, 1f}
 use Rattle.lookup.specs.Box.{box_of, merge_of}
 use Rattle.lookup.specs.declared.boxes.Aabb.{Aabb}
-use Rattle.lookup.specs.declared.boxes.Boxed.{Boxed}
-use Rattle.lookup.specs.declared.boxes.Boxed.TheVariants.{Box, None}
 use Rattle.lookup.specs.declared.frame.Frame.{Frame}
 
 -- the box around what two have
-unfoldable pub join_of : Boxed → Boxed → Boxed
+unfoldable pub join_of : Option Aabb → Option Aabb → Option Aabb
 unfolding merge_of
-join_of (Box a) (Box b) = Box (merge_of a b)
-join_of None (Box b) = Box b
-join_of (Box a) None = Box a
+join_of (Some a) (Some b) = Some (merge_of a b)
+join_of None (Some b) = Some b
+join_of (Some a) None = Some a
 join_of None None = None
 
 -- the box around the boxes of the first n triangles, taken in their order
-unfoldable pub extent_of : List Float → List ℕ → ℕ → Boxed
+unfoldable pub extent_of : List Float → List ℕ → ℕ → Option Aabb
 unfolding join_of box_of
 extent_of vs is zero = None
 extent_of vs is (suc t) = join_of (extent_of vs is t) (box_of vs is t)
 
-unfoldable pub one_of : Boxed → ℕ
-one_of (Box b) = 1
+unfoldable pub one_of : Option Aabb → ℕ
+one_of (Some b) = 1
 one_of None = 0
 
 -- how many of the first n triangles have a box

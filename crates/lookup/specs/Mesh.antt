@@ -1,11 +1,9 @@
 -- Document 01, "Height under a wheel": the triangles of a mesh. Triangle k is the indices 3 k to 3 k + 2. Definitions only. Assumes nothing.
-use Rattle.std.specs.Prelude.{ℕ, ◌+◌, ◌*◌, ◌/◌, Bool, cond, ◌&&◌, List, length, nat_lt, slice_index, Float}
+use Rattle.std.specs.Prelude.{ℕ, ◌+◌, ◌*◌, ◌/◌, Bool, cond, ◌&&◌, List, length, nat_lt, slice_index, Float, Option, Some, None}
 use Rattle.vector.specs.Coords.{up_vector}
 use Rattle.vector.specs.declared.coords.Point.{Point}
 use Rattle.vector.specs.declared.coords.Vector.{Vector}
 use Rattle.shape.specs.Lists.{point_at, vector_at}
-use Rattle.lookup.specs.declared.mesh.Fetch.{Fetch}
-use Rattle.lookup.specs.declared.mesh.Fetch.TheVariants.{Corners, Missing}
 
 -- how many whole triangles there are
 abbrev pub triangles : List ℕ → ℕ
@@ -27,9 +25,9 @@ present vs is t =
 abbrev pub corner_of : List Float → List ℕ → ℕ → ℕ → Point
 corner_of vs is t j = point_at vs (index_of is t j)
 
-unfoldable pub corners_of : List Float → List ℕ → ℕ → Fetch
+unfoldable pub corners_of : List Float → List ℕ → ℕ → Option (Point × Point × Point)
 unfolding present
-corners_of vs is t = cond (present vs is t) (Corners (corner_of vs is t 0) (corner_of vs is t 1) (corner_of vs is t 2)) Missing
+corners_of vs is t = cond (present vs is t) (Some ((corner_of vs is t 0), (corner_of vs is t 1), (corner_of vs is t 2))) None
 
 -- the normal of vertex i: "a corner past the normals has normal (0, 0, 1)"
 unfoldable pub normal_at : List Float → ℕ → Vector

@@ -1,7 +1,6 @@
 -- The answer at one point as a record in lent words, the same that the call for many points writes. Definitions only. Assumes nothing.
-use Rattle.std.specs.Prelude.{ℕ, ◌<◌, nat_lt}
+use Rattle.std.specs.Prelude.{ℕ, ◌<◌, nat_lt, None}
 use Rattle.shape.specs.Refusal.{fine, refuse, Answer, taken, refused, judge}
-use Rattle.lookup.specs.declared.lane.Lane.TheVariants.{None}
 use Rattle.lookup.specs.Plain.{Lookup, gives, none}
 use Rattle.lookup.specs.Sampler.{Sample, hit, miss}
 use Rattle.lookup.specs.Batch.{record_words, lane_id}

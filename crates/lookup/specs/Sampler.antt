@@ -1,16 +1,12 @@
 -- Document 01, "Height under a wheel": what the indexed lookup answers. "The indexed one adds the lane, if any". Definitions only. Assumes nothing.
-use Rattle.std.specs.Prelude.{ℕ, ◌*◌, ◌/◌, ◌<◌, ◌≤◌, cond, ◌&&◌, ltb, List, length, nat_le, nat_lt, Float}
+use Rattle.std.specs.Prelude.{ℕ, ◌*◌, ◌/◌, ◌<◌, ◌≤◌, cond, ◌&&◌, ltb, List, length, nat_le, nat_lt, Float, Option, Some, None, Result, Ok, Err}
 use Rattle.vector.specs.declared.coords.Vector.{Vector}
 use Rattle.shape.specs.Gather.{least}
 use Rattle.shape.specs.Lists.{Mesh, span_words, indices_word, longer, word_of, start_of, end_of, mesh_limits, mesh_ragged}
 use Rattle.shape.specs.Refusal.{Fault, fine, refuse, or_else, Answer, taken, refused, judge, number_of, place_of}
-use Rattle.lookup.specs.declared.mesh.Best.{Best}
-use Rattle.lookup.specs.declared.mesh.Best.TheVariants.{At, Nothing}
-use Rattle.lookup.specs.declared.lane.Lane.{Lane}
-use Rattle.lookup.specs.declared.lane.Lane.TheVariants.{Id, None}
 use Rattle.lookup.specs.declared.sampler.Detail.{Detail}
 use Rattle.lookup.specs.declared.sampler.Sampled.{Sampled}
-use Rattle.lookup.specs.declared.sampler.Sampled.TheVariants as sampled
+use Rattle.shape.specs.declared.refusal.Refusal.{Refusal}
 use Rattle.lookup.specs.Mesh.{triangles}
 use Rattle.lookup.specs.Index.{max_words}
 use Rattle.lookup.specs.Cover.{normal_of}
@@ -32,12 +28,12 @@ unfolding word_of least
 past_of ss i n = least (λ k. ltb i (end_of span_words indices_word ss k)) n
 
 -- that span's lane, if its run holds the triangle's first index
-unfoldable pub lane_of : List ℕ → ℕ → Lane
+unfoldable pub lane_of : List ℕ → ℕ → Option ℕ
 unfolding past_of
 lane_of ss t =
     let n = length ss / span_words in
     let k = past_of ss (3 * t) n in
-    cond (nat_lt k n && nat_le (start_of span_words indices_word ss k) (3 * t)) (Id (word_of span_words ss k 0)) None
+    cond (nat_lt k n && nat_le (start_of span_words indices_word ss k) (3 * t)) (Some (word_of span_words ss k 0)) None
 
 -- of the first n spans, none ends before the one before it
 abbrev pub EndsRise : List ℕ → ℕ → Type 0
@@ -59,9 +55,9 @@ unfoldable pub lookup_in : Sample → Lookup
 lookup_in (hit h n t d) = gives h n t
 lookup_in miss = none
 
-unfoldable pub sample_of : Mesh → Float → Float → Best → Sample
-sample_of m x y (At h t) = hit h (normal_of m.vertices m.normals m.indices t x y) t (detail_of m t)
-sample_of m x y Nothing = miss
+unfoldable pub sample_of : Mesh → Float → Float → Option (Float × ℕ) → Sample
+sample_of m x y (Some (h, t)) = hit h (normal_of m.vertices m.normals m.indices t x y) t (detail_of m t)
+sample_of m x y None = miss
 
 -- the best of a run of triangle numbers
 unfoldable pub sample_in : Mesh → Float → Float → List ℕ → Sample
@@ -79,8 +75,8 @@ unfolding judge onward top_fault
 top_of m ws x y = judge (top_fault m ws) (onward (consult_of ws (triangles m.indices) x y) (λ (p : Candidates). sample_in m x y (run_in ws p)))
 
 -- document 01's values of each case of the code's
-unfoldable pub read_sampled : Sampled → Answer Sample
+unfoldable pub read_sampled : Result (Option Sampled) Refusal → Answer Sample
 unfolding number_of place_of
-read_sampled (sampled.Found h n t d) = taken (hit h n t d)
-read_sampled sampled.None = taken miss
-read_sampled (sampled.Refused r) = refused (number_of r) (place_of r)
+read_sampled (Ok (Some s)) = taken (hit s.height s.normal s.triangle s.detail)
+read_sampled (Ok None) = taken miss
+read_sampled (Err r) = refused (number_of r) (place_of r)

@@ -1,12 +1,10 @@
--- What holds between the steps of `highest_in`, which takes sixteen triangles of a run at a time. A reader of the lookup's contract need not read this. Definitions only.
+-- What holds between the steps of `highest`, which takes sixteen triangles of a run at a time. A reader of the lookup's contract need not read this. Definitions only.
 -- Assumes nothing.
-use Rattle.std.specs.Prelude.{◌≡◌, ℕ, ◌+◌, ◌*◌, ◌<◌, Bool, true, false, List, slice_index_or, Float}
+use Rattle.std.specs.Prelude.{◌≡◌, ℕ, ◌+◌, ◌*◌, ◌<◌, Bool, true, false, List, slice_index_or, Float, Option, Some, None}
 use Rattle.std.specs.Float.{nan}
 use Rattle.std.specs.Float.Ieee.{lt}
 use Rattle.vector.specs.Single.{0f}
 use Rattle.vector.specs.declared.coords.Point.{Point}
-use Rattle.lookup.specs.declared.mesh.Best.{Best}
-use Rattle.lookup.specs.declared.mesh.Best.TheVariants.{At, Nothing}
 use Rattle.lookup.specs.Mesh.{present, corner_of}
 use Rattle.lookup.specs.declared.mesh.Weights.{Weights}
 use Rattle.lookup.specs.declared.mesh.Peak.{Peak}
@@ -82,14 +80,14 @@ pub record Weighs (vs : List Float) (is : List ℕ) (x y : Float) (t : ℕ) (w :
 
 -- the weights are those of the best, if there is one
 abbrev pub PeakWeighed : List Float → List ℕ → Float → Float → Peak → Type 0
-PeakWeighed vs is x y p = (h : Float) (t : ℕ) → p.best ≡ At h t → Weighs vs is x y t p.weights
+PeakWeighed vs is x y p = (h : Float) (t : ℕ) → p.best ≡ Some (h, t) → Weighs vs is x y t p.weights
 
 -- the best of the first n triangles of a run, and whether each of them is there
-pub record HitOf (vs : List Float) (is : List ℕ) (x y : Float) (run : List ℕ) (n : ℕ) (best : Best) (whole : Bool) : Type 0 where
+pub record HitOf (vs : List Float) (is : List ℕ) (x y : Float) (run : List ℕ) (n : ℕ) (best : Option (Float × ℕ)) (whole : Bool) : Type 0 where
   pub found : best ≡ scan_of vs is x y (entry_of run) n
   pub flag : Exactly (There vs is run) n whole
 
 -- the best is one of the triangles that a mesh may have
-unfoldable pub Small : Best → Type 0
-Small (At h t) = t < 65536
-Small Nothing = Unit {0}
+unfoldable pub Small : Option (Float × ℕ) → Type 0
+Small (Some (h, t)) = t < 65536
+Small None = Unit {0}

@@ -1,10 +1,9 @@
 // Boxes on the ground, each worked out in the Rust's order of roundings.
-ghost use Rattle.std.specs.Prelude.{◌≡◌};
+ghost use Rattle.std.specs.Prelude.{◌≡◌, Some};
 ghost use Rattle.lookup.specs.Box.{around_of, grown_of, merge_of};
-ghost use Rattle.lookup.specs.declared.boxes.Boxed.TheVariants.{Box};
 ghost use Rattle.lookup.specs.Frame.{join_of};
 
-use rounding::extremes::{max32, min32};
+use rounding::extremes::{max, min};
 use vector::coords::Point;
 
 // A box on the ground. The bounds stand in this order so that the compiler works the lower ones out in one
@@ -17,22 +16,16 @@ pub struct Aabb {
     pub max_y: f32,
 }
 
-// The box of a triangle or of a row of them, or that there is none.
-#[derive(Clone, Copy)]
-pub enum Boxed {
-    Box(Aabb),
-    None,
-}
-
 // The box around three corners, NaN or not.
+#[tactic(auto, unfolding(crate::specs::Box::around_of))]
 pub(crate) fn around_any(a: Point, b: Point, c: Point) -> Aabb
     ensures { result ≡ around_of a b c }
 {
     Aabb {
-        min_x: min32(min32(a.x, b.x), c.x),
-        max_x: max32(max32(a.x, b.x), c.x),
-        min_y: min32(min32(a.y, b.y), c.y),
-        max_y: max32(max32(a.y, b.y), c.y),
+        min_x: min(min(a.x, b.x), c.x),
+        max_x: max(max(a.x, b.x), c.x),
+        min_y: min(min(a.y, b.y), c.y),
+        max_y: max(max(a.y, b.y), c.y),
     }
 }
 
@@ -42,6 +35,7 @@ pub(crate) const EDGE_SLACK: f32 = 1e-4;
 
 // A box with each bound moved out by the slack times width plus height: a point that the weights' slack
 // lets a triangle cover lies past its corners.
+#[tactic(auto, unfolding(crate::specs::Box::grown_of, crate::specs::Box::slack_of))]
 pub(crate) fn grown(b: Aabb) -> Aabb
     ensures { result ≡ grown_of b }
 {
@@ -55,23 +49,25 @@ pub(crate) fn grown(b: Aabb) -> Aabb
 }
 
 // The box around two.
+#[tactic(auto, unfolding(crate::specs::Box::merge_of))]
 fn merge(a: Aabb, b: Aabb) -> Aabb
     ensures { result ≡ merge_of a b }
 {
     Aabb {
-        min_x: min32(a.min_x, b.min_x),
-        max_x: max32(a.max_x, b.max_x),
-        min_y: min32(a.min_y, b.min_y),
-        max_y: max32(a.max_y, b.max_y),
+        min_x: min(a.min_x, b.min_x),
+        max_x: max(a.max_x, b.max_x),
+        min_y: min(a.min_y, b.min_y),
+        max_y: max(a.max_y, b.max_y),
     }
 }
 
 // The box around another and what there is so far.
-pub(crate) fn join(e: Boxed, g: Aabb) -> Boxed
-    ensures { result ≡ join_of e (Box g) }
+#[tactic(auto, unfolding(crate::specs::Frame::join_of))]
+pub(crate) fn join(e: Option<Aabb>, g: Aabb) -> Aabb
+    ensures { Some result ≡ join_of e (Some g) }
 {
-    let Boxed::Box(x) = e else {
-        return Boxed::Box(g);
-    };
-    Boxed::Box(merge(x, g))
+    match e {
+        Some(x) => merge(x, g),
+        None => g,
+    }
 }

@@ -5,7 +5,7 @@
 // where there is such a one, a slower loop goes over the same triangles again. The slow way within these loops took
 // a tenth more, since the compiler then joins both ways and moves the bounds about. With all this, and with the rows
 // of `grid` that are counted and filled without a branch, building takes 0.46 to 0.47 of the Rust's time.
-ghost use Rattle.std.specs.Prelude.{◌≡◌, ℕ, ◌+◌, ◌-◌, ◌*◌, ◌^◌, ◌<◌, ◌≤◌, min, true, T, List, length, if◌then◌else◌, Float};
+ghost use Rattle.std.specs.Prelude.{◌≡◌, ℕ, ◌+◌, ◌-◌, ◌*◌, ◌^◌, ◌<◌, ◌≤◌, min, true, T, List, length, if◌then◌else◌, Float, Some, None};
 ghost use Rattle.std.specs.Float.{binary32};
 ghost use Rattle.std.specs.Float.Ieee.{fits, lt, le, sub, to_unsigned};
 ghost use Rattle.lookup.specs.Column.{col};
@@ -14,21 +14,20 @@ ghost use Rattle.rounding.specs.Numbers.{IsNum};
 ghost use Rattle.lookup.specs.Column.{Width};
 ghost use Rattle.lookup.specs.Mesh.{triangles};
 ghost use Rattle.lookup.specs.Box.{around_of, box_of};
-ghost use Rattle.lookup.specs.declared.boxes.Boxed.TheVariants.{Box};
 ghost use Rattle.lookup.specs.Index.{block_of, blocks_of, in_cell, cells_of, start};
 ghost use Rattle.lookup.specs.Steps.{Tallied, Framed, Picked, Sound, Narrow, Short, kept_of, kept_in, from, Kept};
 
-use crate::boxes::{Aabb, Boxed, around_any, grown, join};
+use crate::boxes::{Aabb, around_any, grown, join};
 use crate::frame::{Block, Frame, col, single};
-use crate::mesh::{Fetch, corners};
-use rounding::bits::wide;
-use shape::lists::both;
+use crate::mesh::corners;
+use shape::lists::Mesh;
 use vector::coords::Point;
 
 // ---- boxes
 
-// The smaller of two where the first is a number, by one instruction; `min32` takes a test more for a NaN in the
+// The smaller of two where the first is a number, by one instruction; `min` takes a test more for a NaN in the
 // first. The result is a NaN only where the first is one.
+#[tactic(auto, using(crate::proofs::Picking::lower_moves, crate::proofs::Picking::lower_stays))]
 fn lower(x: f32, y: f32) -> f32
     ensures { Picked min_of x y result }
 {
@@ -36,6 +35,7 @@ fn lower(x: f32, y: f32) -> f32
 }
 
 // The larger of two, alike.
+#[tactic(auto, using(crate::proofs::Picking::upper_moves, crate::proofs::Picking::upper_stays))]
 fn upper(x: f32, y: f32) -> f32
     ensures { Picked max_of x y result }
 {
@@ -45,22 +45,22 @@ fn upper(x: f32, y: f32) -> f32
 // The box around three corners by plain comparisons, or none: a NaN in the first corner makes the sum of the
 // lower bounds a NaN. The test stands where it does so that the compiler pairs the lower bounds with each other,
 // and the upper ones, in one instruction each.
-fn around_plain(a: Point, b: Point, c: Point) -> Boxed
-    ensures { (e : Aabb) → result ≡ Box e → e ≡ around_of a b c }
+fn around_plain(a: Point, b: Point, c: Point) -> Option<Aabb>
+    ensures { (e : Aabb) → result ≡ Some e → e ≡ around_of a b c }
 {
     let min_x = lower(lower(a.x, b.x), c.x);
     let min_y = lower(lower(a.y, b.y), c.y);
     let both = min_x + min_y;
     if both != both {
-        return Boxed::None;
+        return None;
     }
     let max_x = upper(upper(a.x, b.x), c.x);
     let max_y = upper(upper(a.y, b.y), c.y);
-    Boxed::Box(Aabb {
-        min_x: min_x,
-        max_x: max_x,
-        min_y: min_y,
-        max_y: max_y,
+    Some(Aabb {
+        min_x,
+        max_x,
+        min_y,
+        max_y,
     })
 }
 
@@ -68,10 +68,10 @@ fn around_plain(a: Point, b: Point, c: Point) -> Boxed
 fn around(a: Point, b: Point, c: Point) -> Aabb
     ensures { result ≡ around_of a b c }
 {
-    let Boxed::Box(e) = around_plain(a, b, c) else {
-        return around_any(a, b, c);
-    };
-    e
+    match around_plain(a, b, c) {
+        Some(e) => e,
+        None => around_any(a, b, c),
+    }
 }
 
 // The box around three corners by plain comparisons, right where its lower bounds are numbers; the caller tests.
@@ -87,19 +87,11 @@ fn compared(a: Point, b: Point, c: Point) -> Aabb
 }
 
 // Are all bounds numbers?
+#[tactic(auto, using(crate::proofs::Picking::num_of_like))]
 fn sound(b: Aabb) -> bool
     ensures { result ≡ true → Sound b }
 {
-    if b.min_x != b.min_x {
-        return false;
-    }
-    if b.max_x != b.max_x {
-        return false;
-    }
-    if b.min_y != b.min_y {
-        return false;
-    }
-    b.max_y == b.max_y
+    b.min_x == b.min_x && b.max_x == b.max_x && b.min_y == b.min_y && b.max_y == b.max_y
 }
 
 // ---- the tally of the boxes
@@ -109,7 +101,7 @@ fn sound(b: Aabb) -> bool
 #[derive(Clone, Copy)]
 pub(crate) struct Tally {
     pub count: u32,
-    pub extent: Boxed,
+    pub extent: Option<Aabb>,
     pub narrow: bool,
     pub width: f32,
     pub height: f32,
@@ -117,23 +109,23 @@ pub(crate) struct Tally {
 
 // How many triangles have a box, and the box around these, whatever they are. The boxes are narrow unless the sides
 // of one are NaN.
-fn tally_any(vertices: &[f32], indices: &[u32]) -> Tally
-    requires { length indices.now ≤ 196608 }
-    ensures tallied { Tallied vertices.now indices.now (triangles indices.now) result.count result.extent }
-    ensures narrow { result.narrow ≡ true → Narrow vertices.now indices.now (triangles indices.now) result.width result.height }
+fn tally_any(mesh: Mesh) -> Tally
+    requires { length mesh.indices.now ≤ 196608 }
+    ensures tallied { Tallied mesh.entry.vertices.now mesh.entry.indices.now (triangles mesh.entry.indices.now) result.count result.extent }
+    ensures narrow { result.narrow ≡ true → Narrow mesh.entry.vertices.now mesh.entry.indices.now (triangles mesh.entry.indices.now) result.width result.height }
 {
     let mut count: u32 = 0;
-    let mut extent = Boxed::None;
+    let mut extent = None;
     let mut narrow = true;
     let mut width: f32 = 0.0;
     let mut height: f32 = 0.0;
-    for t in 0..indices.len() / 3 {
-        let Fetch::Corners(a, b, c) = corners(vertices, indices, t) else {
+    for t in 0..mesh.indices.len() / 3 {
+        let Some((a, b, c)) = corners(mesh, t) else {
             continue;
         };
         count += 1;
         let g = grown(around(a, b, c));
-        extent = join(extent, g);
+        extent = Some(join(extent, g));
         let wide = g.max_x - g.min_x;
         let high = g.max_y - g.min_y;
         let both = wide + high;
@@ -145,11 +137,11 @@ fn tally_any(vertices: &[f32], indices: &[u32]) -> Tally
         height = upper(height, high);
     }
     Tally {
-        count: count,
-        extent: extent,
-        narrow: narrow,
-        width: width,
-        height: height,
+        count,
+        extent,
+        narrow,
+        width,
+        height,
     }
 }
 
@@ -157,19 +149,19 @@ fn tally_any(vertices: &[f32], indices: &[u32]) -> Tally
 // `narrow` is false and the rest is void. It also measures the boxes. The extent's lower bounds are worked out before
 // the test and kept on both its ways, and the upper ones after it, so that the compiler works each two out in one
 // instruction: with all four after it, building took a tenth more.
-fn tally_on(vertices: &[f32], indices: &[u32], first: Aabb) -> Tally
-    requires indices_len_bound { (length indices.now ≤ 196608) × (0 < triangles indices.now) }
-    requires sound { Sound first × (box_of vertices.now indices.now 0 ≡ Box first) }
-    ensures tallied { result.narrow ≡ true → Tallied vertices.now indices.now (triangles indices.now) result.count result.extent }
-    ensures narrow { result.narrow ≡ true → Narrow vertices.now indices.now (triangles indices.now) result.width result.height }
+fn tally_on(mesh: Mesh, first: Aabb) -> Tally
+    requires indices_len_bound { (length mesh.indices.now ≤ 196608) × (0 < triangles mesh.indices.now) }
+    requires sound { Sound first × (box_of mesh.vertices.now mesh.indices.now 0 ≡ Some first) }
+    ensures tallied { result.narrow ≡ true → Tallied mesh.entry.vertices.now mesh.entry.indices.now (triangles mesh.entry.indices.now) result.count result.extent }
+    ensures narrow { result.narrow ≡ true → Narrow mesh.entry.vertices.now mesh.entry.indices.now (triangles mesh.entry.indices.now) result.width result.height }
 {
     let mut count: u32 = 0;
     let mut extent = first;
     let mut narrow = true;
     let mut width: f32 = 0.0;
     let mut height: f32 = 0.0;
-    for t in 0..indices.len() / 3 {
-        let Fetch::Corners(a, b, c) = corners(vertices, indices, t) else {
+    for t in 0..mesh.indices.len() / 3 {
+        let Some((a, b, c)) = corners(mesh, t) else {
             continue;
         };
         count += 1;
@@ -182,9 +174,9 @@ fn tally_on(vertices: &[f32], indices: &[u32], first: Aabb) -> Tally
         if both != both {
             narrow = false; // and the rest is void
             extent = Aabb {
-                min_x: min_x,
+                min_x,
                 max_x: first.max_x,
-                min_y: min_y,
+                min_y,
                 max_y: first.max_y,
             };
             continue;
@@ -192,20 +184,20 @@ fn tally_on(vertices: &[f32], indices: &[u32], first: Aabb) -> Tally
         let max_x = upper(extent.max_x, g.max_x);
         let max_y = upper(extent.max_y, g.max_y);
         extent = Aabb {
-            min_x: min_x,
-            max_x: max_x,
-            min_y: min_y,
-            max_y: max_y,
+            min_x,
+            max_x,
+            min_y,
+            max_y,
         };
         width = upper(width, w);
         height = upper(height, h);
     }
     Tally {
-        count: count,
-        extent: Boxed::Box(extent),
-        narrow: narrow,
-        width: width,
-        height: height,
+        count,
+        extent: Some(extent),
+        narrow,
+        width,
+        height,
     }
 }
 
@@ -213,33 +205,30 @@ fn tally_on(vertices: &[f32], indices: &[u32], first: Aabb) -> Tally
 // would be tallied twice, and building take a seventh longer.
 fn no_nan(vertices: &[f32]) -> bool {
     let mut whole = true;
-    for i in 0..vertices.len() {
-        whole = both(whole, vertices[i] == vertices[i]);
+    for x in vertices {
+        whole &= *x == *x;
     }
     whole
 }
 
 // How many triangles have a box, and the box around these.
-pub(crate) fn tally_of(vertices: &[f32], indices: &[u32]) -> Tally
-    requires { length indices.now ≤ 196608 }
-    ensures tallied { Tallied vertices.now indices.now (triangles indices.now) result.count result.extent }
-    ensures narrow { result.narrow ≡ true → Narrow vertices.now indices.now (triangles indices.now) result.width result.height }
+#[tactic(auto, using(crate::proofs::Laws::Plain::present_below), unfolding(crate::specs::Mesh::corners_of))]
+pub(crate) fn tally_of(mesh: Mesh) -> Tally
+    requires { length mesh.indices.now ≤ 196608 }
+    ensures tallied { Tallied mesh.entry.vertices.now mesh.entry.indices.now (triangles mesh.entry.indices.now) result.count result.extent }
+    ensures narrow { result.narrow ≡ true → Narrow mesh.entry.vertices.now mesh.entry.indices.now (triangles mesh.entry.indices.now) result.width result.height }
 {
-    let Fetch::Corners(a, b, c) = corners(vertices, indices, 0) else {
-        return tally_any(vertices, indices);
+    let Some((a, b, c)) = corners(mesh, 0) else {
+        return tally_any(mesh);
     };
     let first = grown(around(a, b, c));
-    if !sound(first) {
-        return tally_any(vertices, indices);
+    if sound(first) && no_nan(mesh.vertices) {
+        let tally = tally_on(mesh, first);
+        if tally.narrow {
+            return tally;
+        }
     }
-    if !no_nan(vertices) {
-        return tally_any(vertices, indices);
-    }
-    let tally = tally_on(vertices, indices, first);
-    if tally.narrow {
-        return tally;
-    }
-    tally_any(vertices, indices)
+    tally_any(mesh)
 }
 
 // ---- the cells of a box
@@ -248,7 +237,7 @@ pub(crate) fn tally_of(vertices: &[f32], indices: &[u32]) -> Tally
 fn below(x: f32, y: f32) -> u32
     ensures { result ≡ (if lt x y then 1 else 0) }
 {
-    if x < y { 1 } else { 0 }
+    (x < y) as u32
 }
 
 // The whole part of q, as `cut` has it, without a branch, so that four are worked out at once, as building wants.
@@ -262,10 +251,11 @@ fn cut_straight(q: f32, count: usize) -> usize
     let c = lower(single(count - 1), upper(0.0, q));
     let sum = c + 8388608.0;
     let near = f32::to_bits(sum) - 0x4b00_0000;
-    wide(near - below(c, sum - 8388608.0))
+    (near - below(c, sum - 8388608.0)) as usize
 }
 
 // The column of x, as `col` has it, without a branch.
+#[tactic(auto, using(crate::proofs::Laws::Column::bucket_cut), unfolding(crate::specs::Column::col))]
 fn col_straight(m: f32, cell: f32, count: usize, x: f32) -> usize
     requires { (0 < count) × (count ≤ 1024) }
     ensures { result ≡ col binary32 m cell count x }
@@ -274,9 +264,10 @@ fn col_straight(m: f32, cell: f32, count: usize, x: f32) -> usize
 }
 
 // The cells of a box.
+#[tactic(auto, unfolding(crate::specs::Index::block_of))]
 fn block_in(f: Frame, b: Aabb) -> Block
     requires { Framed f }
-    ensures { result ≡ block_of f (Box b) }
+    ensures { result ≡ block_of f (Some b) }
 {
     Block {
         left: col_straight(f.min_x, f.cell, f.cols, b.min_x),
@@ -286,66 +277,73 @@ fn block_in(f: Frame, b: Aabb) -> Block
     }
 }
 
-// ---- blocks that are kept, 64 at a time: in 512 bytes of the stack, four short words to a triangle. To keep those
-// of all triangles took 0.37 to 0.39 of the Rust's time, but 530 KB
+// ---- blocks that are kept, 64 at a time: in 512 bytes of the stack. To keep those of all triangles took 0.37 to 0.39
+// of the Rust's time, but 530 KB
 
-// A short word as a place.
-fn whole(x: u16) -> usize
-    ensures { result ≡ x }
-{
-    x as usize
+// A block as it is kept: in 8 bytes.
+#[derive(Clone, Copy)]
+pub(crate) struct KeptBlock {
+    left: u16,
+    low: u16,
+    right: u16,
+    high: u16,
 }
 
+// What stands where none is kept yet.
+pub(crate) const NO_BLOCK: KeptBlock = KeptBlock {
+    left: 0,
+    low: 0,
+    right: 0,
+    high: 0,
+};
+
 // The block that is kept at place k.
-pub(crate) fn kept_at(blocks: &[u16], k: usize) -> Block
-    requires { 4 * k + 3 < length blocks.now }
+#[tactic(auto, unfolding(crate::specs::Steps::kept_of, crate::specs::Steps::opened))]
+pub(crate) fn kept_at(blocks: &[KeptBlock], k: usize) -> Block
+    requires { k < length blocks.now }
     ensures { result ≡ kept_of blocks.now k }
 {
-    let at = 4 * k;
+    let kept = blocks[k];
     Block {
-        left: whole(blocks[at]),
-        right: whole(blocks[at + 2]),
-        low: whole(blocks[at + 1]),
-        high: whole(blocks[at + 3]),
+        left: kept.left as usize,
+        right: kept.right as usize,
+        low: kept.low as usize,
+        high: kept.high as usize,
     }
 }
 
 // Keeps a block at place k.
-fn keep(b: Block, k: usize, blocks: &mut [u16])
+#[tactic(auto, unfolding(crate::specs::Steps::kept_in, crate::specs::Steps::closed))]
+fn keep(b: Block, k: usize, blocks: &mut [KeptBlock])
     requires short { Short b }
-    requires k_in_bounds { 4 * k + 3 < length blocks.old }
+    requires k_in_bounds { k < length blocks.old }
     ensures { blocks.new ≡ kept_in blocks.old k b }
 {
-    let at = 4 * k;
-    blocks[at] = b.left as u16;
-    blocks[at + 1] = b.low as u16;
-    blocks[at + 2] = b.right as u16;
-    blocks[at + 3] = b.high as u16;
+    blocks[k] = KeptBlock {
+        left: b.left as u16,
+        low: b.low as u16,
+        right: b.right as u16,
+        high: b.high as u16,
+    };
 }
 
 // Keeps the blocks of m triangles from t on, and says whether all have their corners, and no NaN in the first; one
 // that has not is passed over. Nothing else is kept in this loop: with a second store, as in `keep_any`, the
 // compiler would no longer work the four columns of a box out at once.
-fn keep_whole(
-    vertices: &[f32],
-    indices: &[u32],
-    f: Frame,
-    t: usize,
-    m: usize,
-    blocks: &mut [u16],
-) -> bool
+#[tactic(auto, using(crate::proofs::Places::kept_there, crate::proofs::Laws::Frames::block_short))]
+fn keep_whole(mesh: Mesh, f: Frame, t: usize, m: usize, blocks: &mut [KeptBlock]) -> bool
     requires framed { Framed f }
-    requires m_bound { (t + m ≤ triangles indices.now) × (4 * m ≤ length blocks.old) }
-    ensures { result ≡ true → Kept (from t (blocks_of vertices.now indices.now f)) m blocks.new }
+    requires m_bound { (t + m ≤ triangles mesh.indices.now) × (m ≤ length blocks.old) }
+    ensures { result ≡ true → Kept (from t (blocks_of mesh.entry.vertices.now mesh.entry.indices.now f)) m blocks.new }
 {
     let mut whole = true;
     for k in 0..m {
         let i = t + k;
-        let Fetch::Corners(a, b, c) = corners(vertices, indices, i) else {
+        let Some((a, b, c)) = corners(mesh, i) else {
             whole = false; // a corner is missing
             continue;
         };
-        let Boxed::Box(e) = around_plain(a, b, c) else {
+        let Some(e) = around_plain(a, b, c) else {
             whole = false; // it is a NaN
             continue;
         };
@@ -356,13 +354,14 @@ fn keep_whole(
 }
 
 // The same, whatever the corners: one that has none keeps a block that starts past its end.
-fn keep_any(vertices: &[f32], indices: &[u32], f: Frame, t: usize, m: usize, blocks: &mut [u16])
+#[tactic(auto, using(crate::proofs::Places::kept_there, crate::proofs::Places::kept_missing, crate::proofs::Laws::Frames::block_short))]
+fn keep_any(mesh: Mesh, f: Frame, t: usize, m: usize, blocks: &mut [KeptBlock])
     requires framed { Framed f }
-    requires m_bound { (t + m ≤ triangles indices.now) × (4 * m ≤ length blocks.old) }
-    ensures { Kept (from t (blocks_of vertices.now indices.now f)) m blocks.new }
+    requires m_bound { (t + m ≤ triangles mesh.indices.now) × (m ≤ length blocks.old) }
+    ensures { Kept (from t (blocks_of mesh.entry.vertices.now mesh.entry.indices.now f)) m blocks.new }
 {
     for k in 0..m {
-        let Fetch::Corners(a, b, c) = corners(vertices, indices, t + k) else {
+        let Some((a, b, c)) = corners(mesh, t + k) else {
             let none = Block {
                 left: 1,
                 right: 0,
@@ -377,42 +376,35 @@ fn keep_any(vertices: &[f32], indices: &[u32], f: Frame, t: usize, m: usize, blo
 }
 
 // Keeps the blocks of m triangles from t on.
-pub(crate) fn keep_blocks(
-    vertices: &[f32],
-    indices: &[u32],
-    f: Frame,
-    t: usize,
-    m: usize,
-    blocks: &mut [u16],
-)
+pub(crate) fn keep_blocks(mesh: Mesh, f: Frame, t: usize, m: usize, blocks: &mut [KeptBlock])
     requires framed { Framed f }
-    requires m_bound { (t + m ≤ triangles indices.now) × (4 * m ≤ length blocks.old) }
-    ensures { Kept (from t (blocks_of vertices.now indices.now f)) m blocks.new }
+    requires m_bound { (t + m ≤ triangles mesh.indices.now) × (m ≤ length blocks.old) }
+    ensures { Kept (from t (blocks_of mesh.entry.vertices.now mesh.entry.indices.now f)) m blocks.new }
 {
-    if keep_whole(vertices, indices, f, t, m, blocks) {
+    if keep_whole(mesh, f, t, m, blocks) {
         return;
     }
-    keep_any(vertices, indices, f, t, m, blocks);
+    keep_any(mesh, f, t, m, blocks);
 }
 
 // How many of the triangles that are left have their blocks kept at once.
 pub(crate) fn some_of(left: usize) -> usize
     ensures { result ≡ min left 64 }
 {
-    if left < 64 { left } else { 64 }
+    left.min(64)
 }
 
 // Keeps the blocks of the first n triangles, 64 at a time, so that a triangle for the slow way takes only its own 64
 // there.
-pub(crate) fn keep_first(vertices: &[f32], indices: &[u32], f: Frame, n: usize, blocks: &mut [u16])
+pub(crate) fn keep_first(mesh: Mesh, f: Frame, n: usize, blocks: &mut [KeptBlock])
     requires framed { Framed f }
-    requires n_bound { (n ≤ triangles indices.now) × (4 * n ≤ length blocks.old) × (length indices.now ≤ 196608) }
-    ensures { Kept (from 0 (blocks_of vertices.now indices.now f)) n blocks.new }
+    requires n_bound { (n ≤ triangles mesh.indices.now) × (n ≤ length blocks.old) × (length mesh.indices.now ≤ 196608) }
+    ensures { Kept (from 0 (blocks_of mesh.entry.vertices.now mesh.entry.indices.now f)) n blocks.new }
 {
     let mut t = 0;
     while t < n {
         let m = some_of(n - t);
-        keep_blocks(vertices, indices, f, t, m, &mut blocks[4 * t..]);
+        keep_blocks(mesh, f, t, m, &mut blocks[t..]);
         t += m;
     }
 }
@@ -429,8 +421,7 @@ fn reach(m: f32, cell: f32, count: usize, w: f32) -> usize
     let step = 0.5 * cell;
     let mut most = col(m, cell, count, m + w);
     let mut x = m;
-    let mut j: usize = 0;
-    while j < 4096 {
+    for _ in 0..4096 {
         let here = col(m, cell, count, x);
         if count - 1 <= here {
             return most;
@@ -441,7 +432,6 @@ fn reach(m: f32, cell: f32, count: usize, w: f32) -> usize
             most = there - here;
         }
         x = next;
-        j += 1;
     }
     count - 1
 }

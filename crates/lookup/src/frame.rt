@@ -6,11 +6,10 @@ ghost use Rattle.lookup.specs.Column.{bucket, col};
 ghost use Rattle.lookup.specs.Frame.{count_of, fine_of, side_of, frame_of};
 
 use crate::boxes::Aabb;
-use rounding::bits::wide;
-use rounding::count::count32;
-use rounding::extremes::max32;
+use rounding::count::count;
+use rounding::extremes::max;
 use rounding::root::sqrt32;
-use rounding::whole::ceil32;
+use rounding::whole::ceil;
 
 // ---- the frame
 
@@ -34,26 +33,21 @@ const ITEMS_PER_CELL: f32 = 2.0;
 
 // The side of a cell, for two boxes to a cell of an extent w by h: floored, so that a straight road
 // still gives one, and with no more than 1,024 cells on the longer side.
+#[tactic(auto, unfolding(crate::specs::Frame::fine_of))]
 fn fine(w: f32, h: f32, count: u32) -> f32
     ensures { result ≡ fine_of w h count }
 {
-    let target = max32(std::num::nearest_u32_to_f32(count) / ITEMS_PER_CELL, 1.0);
-    let area = max32(w, 1e-3) * max32(h, 1e-3);
-    max32(max32(sqrt32(area / target), max32(w, h) / 1024.0), 1e-3)
+    let target = max(std::num::nearest_u32_to_f32(count) / ITEMS_PER_CELL, 1.0);
+    let area = max(w, 1e-3) * max(h, 1e-3);
+    max(max(sqrt32(area / target), max(w, h) / 1024.0), 1e-3)
 }
 
 // How many cells a length takes.
+#[tactic(auto, unfolding(crate::specs::Frame::side_of))]
 fn side(w: f32, cell: f32) -> usize
     ensures { result ≡ side_of w cell }
 {
-    let n = count32(ceil32(w / cell)) as usize;
-    if n < 1 {
-        return 1;
-    }
-    if MAX_DIM < n {
-        return MAX_DIM;
-    }
-    n
+    (count(ceil(w / cell)) as usize).max(1).min(MAX_DIM)
 }
 
 // A count of cells as a float.
@@ -79,9 +73,9 @@ pub(crate) fn frame_of(e: Aabb, count: u32) -> Frame
         min_y: e.min_y,
         max_x: e.max_x,
         max_y: e.max_y,
-        cell: max32(max32(w / single(cols), h / single(rows)), 1e-3),
-        cols: cols,
-        rows: rows,
+        cell: max(max(w / single(cols), h / single(rows)), 1e-3),
+        cols,
+        rows,
     }
 }
 
@@ -97,7 +91,7 @@ fn cut(q: f32, count: usize) -> usize
         if q < 1024.0 {
             let bits = f32::to_bits(q);
             let digits = bits % 0x80_0000 + 0x80_0000;
-            let i = wide(digits >> (150 - bits / 0x80_0000));
+            let i = (digits >> (150 - bits / 0x80_0000)) as usize;
             if i < count {
                 return i;
             }
@@ -110,6 +104,7 @@ fn cut(q: f32, count: usize) -> usize
 
 // The column of what lies `offset` past the grid's edge. A NaN and what lies before the first column go to
 // it, and what lies past the last to the last.
+#[tactic(auto, using(crate::proofs::Laws::Column::bucket_cut))]
 fn bucket(offset: f32, cell: f32, count: usize) -> usize
     requires { (0 < count) × (count ≤ 1024) }
     ensures { result ≡ bucket binary32 offset cell count }
@@ -118,6 +113,7 @@ fn bucket(offset: f32, cell: f32, count: usize) -> usize
 }
 
 // The column of x, in a grid that starts at m; the row of a y likewise.
+#[tactic(auto, unfolding(crate::specs::Column::col))]
 pub(crate) fn col(m: f32, cell: f32, count: usize, x: f32) -> usize
     requires { (0 < count) × (count ≤ 1024) }
     ensures { result ≡ col binary32 m cell count x }
@@ -141,10 +137,7 @@ pub(crate) fn area(b: Block) -> usize
     requires { (b.right < 1024) × (b.high < 1024) }
     ensures { result ≡ (b.high + 1 - b.low) * (b.right + 1 - b.left) }
 {
-    if b.right < b.left {
-        return 0;
-    }
-    if b.high < b.low {
+    if b.right < b.left || b.high < b.low {
         return 0;
     }
     (b.high + 1 - b.low) * (b.right + 1 - b.left)

@@ -2,17 +2,8 @@
 ghost use Rattle.std.specs.Prelude.{◌≡◌, ◌+◌, ◌-◌, ◌*◌, ◌/◌, ◌<◌, ◌≤◌, length};
 ghost use Rattle.lookup.specs.Sampler.{EndsRise, past_of, lane_of};
 ghost use Rattle.lookup.specs.Steps.{Halved};
-ghost use Rattle.lookup.specs.Batch.{lane_there, lane_id};
 
-use rounding::bits::wide;
-use shape::lists::{SPAN_ID, SPAN_INDICES, SPAN_INDICES_END, SPAN_WORDS, record_word};
-
-// A lane by its id, or that the spans name none.
-#[derive(Clone, Copy)]
-pub enum Lane {
-    Id(usize),
-    None,
-}
+use shape::lists::{Records, SPAN_ID, SPAN_INDICES, SPAN_INDICES_END, SPAN_WORDS};
 
 // A part of the spans: the first of them, and how many there are.
 #[derive(Clone, Copy)]
@@ -42,7 +33,7 @@ fn half_of(spans: &[u32], i: usize, p: Part) -> Part
         return p;
     }
     let half = p.size / 2;
-    let end = wide(spans[SPAN_WORDS * (p.low + half) - 1]);
+    let end = spans[SPAN_WORDS * (p.low + half) - 1] as usize;
     Part {
         low: moved(p.low, half, end, i),
         size: p.size - half,
@@ -72,13 +63,14 @@ fn span_past(spans: &[u32], i: usize) -> usize
     moved(
         e.low,
         1,
-        wide(spans[SPAN_WORDS * e.low + SPAN_INDICES_END]),
+        spans[SPAN_WORDS * e.low + SPAN_INDICES_END] as usize,
         i,
     )
 }
 
-// The lane that triangle t belongs to.
-pub(crate) fn lane_of(spans: &[u32], t: usize) -> Lane
+// The id of the lane that triangle t belongs to, if the spans name one.
+#[tactic(auto, using(crate::proofs::Laws::Spans::lane_of_span, crate::proofs::Laws::Spans::lane_before, crate::proofs::Laws::Spans::lane_past))]
+pub(crate) fn lane_of(spans: &[u32], t: usize) -> Option<usize>
     requires t_bound { t < 65536 }
     requires spans_len_bound { length spans.now ≤ 5120 }
     requires ends_rise { EndsRise spans.now (length spans.now / 5) }
@@ -87,30 +79,9 @@ pub(crate) fn lane_of(spans: &[u32], t: usize) -> Lane
     let i = 3 * t;
     let n = spans.len() / SPAN_WORDS;
     let k = span_past(spans, i);
-    if k < n {
-        let start = record_word(spans, SPAN_WORDS, k, SPAN_INDICES);
-        if start <= i {
-            return Lane::Id(record_word(spans, SPAN_WORDS, k, SPAN_ID));
-        }
+    let records = Records::<SPAN_WORDS> { words: spans };
+    if k < n && records.word(k, SPAN_INDICES) <= i {
+        return Some(records.word(k, SPAN_ID));
     }
-    Lane::None
-}
-
-// Is there a lane? And its id, 0 where there is none.
-pub fn lane_there(l: Lane) -> u32
-    ensures { result ≡ lane_there l }
-{
-    match l {
-        Lane::Id(id) => 1,
-        Lane::None => 0,
-    }
-}
-
-pub fn lane_id(l: Lane) -> usize
-    ensures { result ≡ lane_id l }
-{
-    match l {
-        Lane::Id(id) => id,
-        Lane::None => 0,
-    }
+    None
 }

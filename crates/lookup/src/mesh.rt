@@ -1,27 +1,19 @@
-// Triangles of a mesh, and the plain lookup over them. A mesh is four lent lists: the vertices'
-// coordinates and the normals' in threes, the triangles' vertex numbers in threes, and the lanes' spans.
-ghost use Rattle.std.specs.Prelude.{◌≡◌, ◌+◌, ◌*◌, ◌^◌, ◌<◌, ◌≤◌, true, false, ◌⊎◌, length};
+// Triangles of a mesh, and the plain lookup over them.
+#![tactic(auto, unfolding(crate::specs::Mesh::corners_of, crate::specs::Mesh::present, crate::specs::Mesh::normal_at, crate::specs::Cover::det_of, crate::specs::Cover::over_a, crate::specs::Cover::weight_a, crate::specs::Cover::weight_b, crate::specs::Cover::weights_of, crate::specs::Cover::weights_inside, crate::specs::Cover::lift_of, crate::specs::Cover::smooth_of, crate::specs::Cover::flat_of, crate::specs::Cover::face_up, crate::specs::Cover::blend_of, crate::specs::Plain::higher_of, crate::specs::Sixteen::ground_at, vector::specs::Coords::up_vector))]
+
+ghost use Rattle.std.specs.Prelude.{◌≡◌, ◌+◌, ◌*◌, ◌^◌, ◌<◌, ◌≤◌, true, false, ◌⊎◌, length, Some, None};
 ghost use Rattle.std.specs.Float.Ieee.{lt};
-ghost use Rattle.shape.specs.Lists.{mesh_lists};
+ghost use Rattle.shape.specs.Lists.{lists_of};
 ghost use Rattle.lookup.specs.Mesh.{corners_of, normal_at, triangles};
 ghost use Rattle.lookup.specs.Cover.{slack, det_of, over_a, weight_a, weight_b, weights_of, weights_inside, lift_of, face_up, smooth_of, blend_of, flat_of, normal_of};
 ghost use Rattle.lookup.specs.Plain.{higher_of, scan_of, entry_of, read_answer, answer_of};
 ghost use Rattle.lookup.specs.Sixteen.{ground_at, Grounded, Gathered, AllLow, Passing, Weighed, Weighs, PeakWeighed, HitOf};
-ghost use Rattle.lookup.specs.declared.mesh.Best.TheVariants.{At, Nothing};
 
 use crate::boxes::EDGE_SLACK;
-use rounding::bits::wide;
-use rounding::extremes::abs32;
-use shape::lists::{both, mesh_fault, point_at, vector_at, word_at};
-use shape::refusal::{Check, Refusal};
+use rounding::extremes::abs;
+use shape::lists::{Mesh, point_at, vector_at, word_at};
+use shape::refusal::Refusal;
 use vector::coords::{Point, Vector};
-
-// The corners of a triangle, or that one lies past the vertices.
-#[derive(Clone, Copy)]
-pub enum Fetch {
-    Corners(Point, Point, Point),
-    Missing,
-}
 
 // The weights of the three corners at a point, and the determinant that they were divided by.
 #[derive(Clone, Copy)]
@@ -32,51 +24,47 @@ pub struct Weights {
     pub c: f32,
 }
 
-// The highest triangle so far: its height and number.
-#[derive(Clone, Copy)]
-pub enum Best {
-    At(f32, usize),
-    Nothing,
-}
-
-// The same with the weights of its corners at the point.
+// The highest triangle so far, by its height and number, with the weights of its corners at the point.
 #[derive(Clone, Copy)]
 pub struct Peak {
-    pub best: Best,
+    pub best: Option<(f32, usize)>,
     pub weights: Weights,
 }
 
-// What the plain lookup answers: height, normal and triangle, or none, or why the call is turned back.
+// What a lookup finds: height, normal and triangle.
 #[derive(Clone, Copy)]
-pub enum Answer {
-    Found(f32, Vector, usize),
-    None,
-    Refused(Refusal),
+pub struct Found {
+    pub height: f32,
+    pub normal: Vector,
+    pub triangle: usize,
 }
 
-// The corners of triangle t.
-pub fn corners(vertices: &[f32], indices: &[u32], t: usize) -> Fetch
-    ensures { result ≡ corners_of vertices.now indices.now t }
+// The corners of triangle t, or none where one lies past the vertices.
+pub fn corners(mesh: Mesh, t: usize) -> Option<(Point, Point, Point)>
+    ensures { result ≡ corners_of mesh.entry.vertices.now mesh.entry.indices.now t }
 {
-    if t < indices.len() / 3 {
-        let n = vertices.len() / 3;
-        let at = 3 * t;
-        let ia = wide(indices[at]);
-        if ia < n {
-            let ib = wide(indices[at + 1]);
-            if ib < n {
-                let ic = wide(indices[at + 2]);
-                if ic < n {
-                    return Fetch::Corners(
-                        point_at(vertices, ia),
-                        point_at(vertices, ib),
-                        point_at(vertices, ic),
-                    );
-                }
-            }
-        }
+    if mesh.indices.len() / 3 <= t {
+        return None;
     }
-    Fetch::Missing
+    let n = mesh.vertices.len() / 3;
+    let at = 3 * t;
+    let i = mesh.indices[at] as usize;
+    if n <= i {
+        return None;
+    }
+    let j = mesh.indices[at + 1] as usize;
+    if n <= j {
+        return None;
+    }
+    let k = mesh.indices[at + 2] as usize;
+    if n <= k {
+        return None;
+    }
+    Some((
+        point_at(mesh.vertices, i),
+        point_at(mesh.vertices, j),
+        point_at(mesh.vertices, k),
+    ))
 }
 
 // Twice the triangle's area as seen from above, positive where a, b and c turn left.
@@ -125,6 +113,7 @@ pub fn weigh(a: Point, b: Point, c: Point, x: f32, y: f32) -> Weights
 // what it leaves for b and c is. Nearly all triangles of a mesh go by this one test, and all one way.
 // A NaN is left to the full test. Asking for it between the two sums keeps the compiler from weaving
 // them into one, which costs more than it saves.
+#[tactic(auto, using(crate::proofs::Distant::far_outside), unfolding(crate::specs::Cover::weight_a))]
 fn clearly_outside(a: Point, b: Point, c: Point, x: f32, y: f32) -> bool
     ensures { result ≡ true → weights_inside (weights_of a b c x y) ≡ false }
 {
@@ -158,15 +147,10 @@ impl Weights {
     pub fn inside(self) -> bool
         ensures { result ≡ weights_inside self }
     {
-        if abs32(self.det) < 1e-9 {
-            return false;
-        }
-        if self.a >= -EDGE_SLACK {
-            if self.b >= -EDGE_SLACK {
-                return self.c >= -EDGE_SLACK;
-            }
-        }
-        false
+        !(abs(self.det) < 1e-9)
+            && self.a >= -EDGE_SLACK
+            && self.b >= -EDGE_SLACK
+            && self.c >= -EDGE_SLACK
     }
 
     // The triangle's height at the point.
@@ -180,25 +164,18 @@ impl Weights {
     fn smooth(self, na: Vector, nb: Vector, nc: Vector) -> Vector
         ensures { result ≡ smooth_of self na nb nc }
     {
-        let sum = na.mul(self.a).add(nb.mul(self.b)).add(nc.mul(self.c));
+        let sum = na * self.a + nb * self.b + nc * self.c;
         sum.normalize_or(Vector::Z)
     }
 }
 
-impl Best {
-    // The best so far after triangle t of height h: the lower number stays where the heights are equal.
-    pub fn higher(self, h: f32, t: usize) -> Best
-        ensures { result ≡ higher_of self h t }
-    {
-        match self {
-            Best::At(g, k) => {
-                if h <= g {
-                    return Best::At(g, k);
-                }
-                Best::At(h, t)
-            }
-            Best::Nothing => Best::At(h, t),
-        }
+// The best so far after triangle t of height h: the lower number stays where the heights are equal.
+pub fn higher(best: Option<(f32, usize)>, h: f32, t: usize) -> Option<(f32, usize)>
+    ensures { result ≡ higher_of best h t }
+{
+    match best {
+        Some((g, k)) if h <= g => Some((g, k)),
+        _ => Some((h, t)),
     }
 }
 
@@ -206,27 +183,24 @@ impl Peak {
     // The peak after triangle t of height h, whose corners weigh w.
     fn higher(self, h: f32, t: usize, w: Weights) -> Peak
         ensures best_value { result.best ≡ higher_of self.best h t }
-        ensures weights_kept { (result ≡ self) ⊎ ((result.best ≡ At h t) × (result.weights ≡ w)) }
+        ensures weights_kept { (result ≡ self) ⊎ ((result.best ≡ Some (h, t)) × (result.weights ≡ w)) }
     {
-        let best = self.best;
-        if let Best::At(held, k) = best {
-            if h <= held {
-                return self;
-            }
-        }
-        Peak {
-            best: Best::At(h, t),
-            weights: w,
+        match self.best {
+            Some((g, _)) if h <= g => self,
+            _ => Peak {
+                best: Some((h, t)),
+                weights: w,
+            },
         }
     }
 }
 
 // No triangle yet.
 fn no_peak() -> Peak
-    ensures { result.best ≡ Nothing }
+    ensures { result.best ≡ None }
 {
     Peak {
-        best: Best::Nothing,
+        best: None,
         weights: Weights {
             det: 0.0,
             a: 0.0,
@@ -253,7 +227,7 @@ fn normal_at(normals: &[f32], i: usize) -> Vector
 fn flat(a: Point, b: Point, c: Point) -> Vector
     ensures { result ≡ flat_of a b c }
 {
-    b.sub(a).cross(c.sub(a)).normalize_or(Vector::Z)
+    (b - a).cross(c - a).normalize_or(Vector::Z)
 }
 
 // Turned over where it points down, whichever way round the triangle's corners go.
@@ -261,61 +235,48 @@ fn face_up(n: Vector) -> Vector
     ensures { result ≡ face_up n }
 {
     if n.z < 0.0 {
-        return n.neg();
+        return -n;
     }
     n
 }
 
 // The direction of the normals of triangle t's corners by their weights. The triangle is there.
-fn blend(normals: &[f32], indices: &[u32], t: usize, w: Weights) -> Vector
-    requires { t < triangles indices.now }
-    ensures { result ≡ blend_of normals.now indices.now t w }
+fn blend(mesh: Mesh, t: usize, w: Weights) -> Vector
+    requires { t < triangles mesh.indices.now }
+    ensures { result ≡ blend_of mesh.entry.normals.now mesh.entry.indices.now t w }
 {
     let at = 3 * t;
-    let na = normal_at(normals, word_at(indices, at));
-    let nb = normal_at(normals, word_at(indices, at + 1));
-    let nc = normal_at(normals, word_at(indices, at + 2));
+    let na = normal_at(mesh.normals, word_at(mesh.indices, at));
+    let nb = normal_at(mesh.normals, word_at(mesh.indices, at + 1));
+    let nc = normal_at(mesh.normals, word_at(mesh.indices, at + 2));
     w.smooth(na, nb, nc)
 }
 
 // The normal of triangle t at (x, y), from the corners' normals so that it does not snap at an edge. With
 // more normals than vertices it is the triangle's own. Up where there is no such triangle.
-pub fn normal_of(
-    vertices: &[f32],
-    normals: &[f32],
-    indices: &[u32],
-    t: usize,
-    x: f32,
-    y: f32,
-) -> Vector
-    ensures { result ≡ normal_of vertices.now normals.now indices.now t x y }
+#[tactic(auto, using(crate::proofs::Laws::Plain::present_below), unfolding(crate::specs::Cover::normal_of, crate::specs::Mesh::corners_of, crate::specs::Cover::weights_at, vector::specs::Coords::up_vector))]
+pub fn normal_of(mesh: Mesh, t: usize, x: f32, y: f32) -> Vector
+    ensures { let m = lists_of mesh.entry in result ≡ normal_of m.vertices m.normals m.indices t x y }
 {
-    let Fetch::Corners(a, b, c) = corners(vertices, indices, t) else {
+    let Some((a, b, c)) = corners(mesh, t) else {
         return Vector::Z;
     };
-    if vertices.len() / 3 < normals.len() / 3 {
+    if mesh.vertices.len() / 3 < mesh.normals.len() / 3 {
         return face_up(flat(a, b, c));
     }
-    face_up(blend(normals, indices, t, weigh(a, b, c, x, y)))
+    face_up(blend(mesh, t, weigh(a, b, c, x, y)))
 }
 
 // The same where w are the weights of the triangle's corners at (x, y), and it is there.
-pub(crate) fn normal_by(
-    vertices: &[f32],
-    normals: &[f32],
-    indices: &[u32],
-    t: usize,
-    x: f32,
-    y: f32,
-    w: Weights,
-) -> Vector
-    requires { Weighs vertices.now indices.now x y t w }
-    ensures { result ≡ normal_of vertices.now normals.now indices.now t x y }
+#[tactic(auto, using(crate::proofs::Laws::Plain::present_below), unfolding(crate::specs::Cover::normal_of))]
+pub(crate) fn normal_by(mesh: Mesh, t: usize, x: f32, y: f32, w: Weights) -> Vector
+    requires { Weighs mesh.vertices.now mesh.indices.now x y t w }
+    ensures { let m = lists_of mesh.entry in result ≡ normal_of m.vertices m.normals m.indices t x y }
 {
-    if vertices.len() / 3 < normals.len() / 3 {
-        return normal_of(vertices, normals, indices, t, x, y);
+    if mesh.vertices.len() / 3 < mesh.normals.len() / 3 {
+        return normal_of(mesh, t, x, y);
     }
-    face_up(blend(normals, indices, t, w))
+    face_up(blend(mesh, t, w))
 }
 
 // ---- the scan of a run, by sixteens
@@ -350,8 +311,7 @@ fn put_ground(xs: &mut [f32], k: usize, p: Point)
 // The corners on the ground of the n triangles that a run names from `from` on, and whether all are there. One
 // that is missing is passed over: its place keeps what it holds.
 fn gather(
-    vertices: &[f32],
-    indices: &[u32],
+    mesh: Mesh,
     run: &[u32],
     from: usize,
     n: usize,
@@ -360,11 +320,11 @@ fn gather(
     third: &mut [f32],
 ) -> bool
     requires { (from + n ≤ length run.now) × (2 * n ≤ length first.old) × (2 * n ≤ length second.old) × (2 * n ≤ length third.old) }
-    ensures { Gathered vertices.now indices.now run.now from n first.new second.new third.new result }
+    ensures { Gathered mesh.entry.vertices.now mesh.entry.indices.now run.now from n first.new second.new third.new result }
 {
     let mut whole = true;
     for k in 0..n {
-        let Fetch::Corners(a, b, c) = corners(vertices, indices, wide(run[from + k])) else {
+        let Some((a, b, c)) = corners(mesh, run[from + k] as usize) else {
             whole = false;
             continue;
         };
@@ -376,22 +336,20 @@ fn gather(
 }
 
 // The least weight of each of n triangles. With nothing else in the loop the compiler takes four at a time.
+#[tactic(auto, using(crate::proofs::Sixteens::low_step))]
 fn weigh_all(a: &[f32], b: &[f32], c: &[f32], n: usize, x: f32, y: f32, low: &mut [f32])
     requires { (2 * n ≤ length a.now) × (2 * n ≤ length b.now) × (2 * n ≤ length c.now) × (n ≤ length low.old) }
     ensures { AllLow a.now b.now c.now x y low.new n }
 {
-    let mut k: usize = 0;
-    while k < n {
+    for k in 0..n {
         let w = weigh(ground_at(a, k), ground_at(b, k), ground_at(c, k), x, y);
         low[k] = w.least();
-        k += 1;
     }
 }
 
 // The peak after n more triangles of a run, of which those with too low a least weight are passed over.
 fn low_turns(
-    vertices: &[f32],
-    indices: &[u32],
+    mesh: Mesh,
     run: &[u32],
     from: usize,
     n: usize,
@@ -401,19 +359,19 @@ fn low_turns(
     before: Peak,
 ) -> Peak
     requires n_in_bounds { (from + n ≤ length run.now) × (n ≤ length low.now) }
-    requires passing { Passing vertices.now indices.now x y run.now from n low.now }
-    requires best_value { before.best ≡ scan_of vertices.now indices.now x y (entry_of run.now) from }
-    requires peak_weighed { PeakWeighed vertices.now indices.now x y before }
-    ensures best_after { result.best ≡ scan_of vertices.now indices.now x y (entry_of run.now) (from + n) }
-    ensures peak_after { PeakWeighed vertices.now indices.now x y result }
+    requires passing { Passing mesh.vertices.now mesh.indices.now x y run.now from n low.now }
+    requires best_value { before.best ≡ scan_of mesh.vertices.now mesh.indices.now x y (entry_of run.now) from }
+    requires peak_weighed { PeakWeighed mesh.vertices.now mesh.indices.now x y before }
+    ensures best_after { result.best ≡ scan_of mesh.entry.vertices.now mesh.entry.indices.now x y (entry_of run.now) (from + n) }
+    ensures peak_after { PeakWeighed mesh.entry.vertices.now mesh.entry.indices.now x y result }
 {
     let mut peak = before;
     for k in 0..n {
         if low[k] < -EDGE_SLACK {
             continue;
         }
-        let t = wide(run[from + k]);
-        let Fetch::Corners(a, b, c) = corners(vertices, indices, t) else {
+        let t = run[from + k] as usize;
+        let Some((a, b, c)) = corners(mesh, t) else {
             continue;
         };
         let w = weigh(a, b, c, x, y);
@@ -433,22 +391,10 @@ fn next_fourth(n: usize) -> usize
     (n + 3) / 4 * 4
 }
 
-// At most sixteen.
-fn few_of(n: usize) -> usize
-    requires { 0 < n }
-    ensures { (0 < result) × (result ≤ n) × (result ≤ 16) }
-{
-    if n < 16 {
-        return n;
-    }
-    16
-}
-
 // The least weights of n triangles of a run, and whether all are there. That of a missing one may be anything:
 // it covers nothing.
 fn weigh_part(
-    vertices: &[f32],
-    indices: &[u32],
+    mesh: Mesh,
     run: &[u32],
     from: usize,
     n: usize,
@@ -461,18 +407,18 @@ fn weigh_part(
 ) -> bool
     requires n_in_bounds { (from + n ≤ length run.now) × (n ≤ 16) }
     requires in_bounds { (32 ≤ length a.old) × (32 ≤ length b.old) × (32 ≤ length c.old) × (16 ≤ length low.old) }
-    ensures { Weighed vertices.now indices.now x y run.now from n low.new result }
+    ensures { Weighed mesh.entry.vertices.now mesh.entry.indices.now x y run.now from n low.new result }
 {
-    let whole = gather(vertices, indices, run, from, n, a, b, c);
+    let whole = gather(mesh, run, from, n, a, b, c);
     weigh_all(a, b, c, next_fourth(n), x, y, low);
     whole
 }
 
 // The peak of the triangles that a run of triangle numbers names, in its order. Nearly all go by their least
 // weight: it is worked out for sixteen at a time, first the corners and then the weights.
-pub(crate) fn highest(vertices: &[f32], indices: &[u32], run: &[u32], x: f32, y: f32) -> Hit
-    ensures hit_of { HitOf vertices.now indices.now x y run.now (length run.now) result.peak.best result.whole }
-    ensures peak_weighed { PeakWeighed vertices.now indices.now x y result.peak }
+pub(crate) fn highest(mesh: Mesh, run: &[u32], x: f32, y: f32) -> Hit
+    ensures hit_of { HitOf mesh.entry.vertices.now mesh.entry.indices.now x y run.now (length run.now) result.peak.best result.whole }
+    ensures peak_weighed { PeakWeighed mesh.entry.vertices.now mesh.entry.indices.now x y result.peak }
 {
     let mut a = [0f32; 32];
     let mut b = [0f32; 32];
@@ -482,29 +428,25 @@ pub(crate) fn highest(vertices: &[f32], indices: &[u32], run: &[u32], x: f32, y:
     let mut whole = true;
     let mut i: usize = 0;
     while i < run.len() {
-        let n = few_of(run.len() - i);
-        let there = weigh_part(
-            vertices, indices, run, i, n, x, y, &mut a, &mut b, &mut c, &mut low,
-        );
-        whole = both(whole, there);
-        peak = low_turns(vertices, indices, run, i, n, &low, x, y, peak);
+        let n = (run.len() - i).min(16);
+        let there = weigh_part(mesh, run, i, n, x, y, &mut a, &mut b, &mut c, &mut low);
+        whole &= there;
+        peak = low_turns(mesh, run, i, n, &low, x, y, peak);
         i += n;
     }
-    Hit {
-        peak: peak,
-        whole: whole,
-    }
+    Hit { peak, whole }
 }
 
 // ---- the plain lookup
 
 // The best of all triangles, by their numbers.
-fn highest_of_all(vertices: &[f32], indices: &[u32], x: f32, y: f32) -> Best
-    ensures { result ≡ scan_of vertices.now indices.now x y (λ t. t) (triangles indices.now) }
+#[tactic(auto, unfolding(crate::specs::Plain::scan_of, crate::specs::Plain::scan_by, crate::specs::Fold::fold_of, crate::specs::Cover::covers, crate::specs::Cover::height_of, crate::specs::Cover::weights_at, crate::specs::Mesh::corners_of))]
+fn highest_of_all(mesh: Mesh, x: f32, y: f32) -> Option<(f32, usize)>
+    ensures { let m = lists_of mesh.entry in result ≡ scan_of m.vertices m.indices x y (λ t. t) (triangles m.indices) }
 {
-    let mut best = Best::Nothing;
-    for t in 0..indices.len() / 3 {
-        let Fetch::Corners(a, b, c) = corners(vertices, indices, t) else {
+    let mut best = None;
+    for t in 0..mesh.indices.len() / 3 {
+        let Some((a, b, c)) = corners(mesh, t) else {
             continue;
         };
         if clearly_outside(a, b, c, x, y) {
@@ -514,27 +456,24 @@ fn highest_of_all(vertices: &[f32], indices: &[u32], x: f32, y: f32) -> Best
         if !w.inside() {
             continue;
         }
-        best = best.higher(w.height(a, b, c), t);
+        best = higher(best, w.height(a, b, c), t);
     }
     best
 }
 
-// The highest triangle over (x, y), of the lowest number among equals: its height, normal and number.
-pub fn height_at(
-    vertices: &[f32],
-    normals: &[f32],
-    indices: &[u32],
-    spans: &[u32],
-    x: f32,
-    y: f32,
-) -> Answer
-    ensures { read_answer result ≡ answer_of (mesh_lists vertices.now normals.now indices.now spans.now) x y }
+// The highest triangle over (x, y), of the lowest number among equals: its height, normal and number, if there
+// is one.
+#[tactic(auto, unfolding(crate::specs::Plain::answer_of, crate::specs::Plain::read_answer, crate::specs::Plain::plain_of, crate::specs::Plain::lookup_of, shape::specs::Refusal::judge, shape::specs::Refusal::found))]
+pub fn height_at(mesh: Mesh, x: f32, y: f32) -> Result<Option<Found>, Refusal>
+    ensures { read_answer result ≡ answer_of (lists_of mesh.entry) x y }
 {
-    match mesh_fault(vertices, normals, indices, spans) {
-        Check::Faulty(refusal) => Answer::Refused(refusal),
-        Check::Fine => match highest_of_all(vertices, indices, x, y) {
-            Best::At(h, t) => Answer::Found(h, normal_of(vertices, normals, indices, t, x, y), t),
-            Best::Nothing => Answer::None,
-        },
-    }
+    mesh.check()?;
+    let Some((height, triangle)) = highest_of_all(mesh, x, y) else {
+        return Ok(None);
+    };
+    Ok(Some(Found {
+        height,
+        normal: normal_of(mesh, triangle, x, y),
+        triangle,
+    }))
 }

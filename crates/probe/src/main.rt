@@ -21,7 +21,7 @@ enum Failure {
 }
 
 // Reads until the input ends or `bytes` is full, and answers how many bytes were read.
-fn read_input<R: Read>(input: &mut R, bytes: &mut [u8]) -> io::Result<usize>
+fn read_input<R: Read>(input: &mut R, bytes: &mut [u8; 65537]) -> io::Result<usize>
     ensures within { IfOk result (λ n. n ≤ length bytes.new) }
     ensures taken { IfOk result (λ n. Consumes (R.remaining input.old) (R.remaining input.new) (take n bytes.new)) }
     ensures ended { IfOk result (λ n. n < length bytes.new → IsAtEnd (R.remaining input.new)) }
@@ -49,7 +49,7 @@ fn run<R: Read, W: Write>(input: &mut R, output: &mut W) -> Result<(), Failure>
     match read_input(input, &mut bytes) {
         Err(e) => Err(Failure::Input(e)),
         Ok(n) => {
-            let m = probe(&bytes, n, &mut text);
+            let m = probe(&bytes[..n], &mut text);
             match output.write_all(&text[..m]) {
                 Err(e) => Err(Failure::Output(e)),
                 Ok(()) => Ok(()),

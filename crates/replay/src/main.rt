@@ -6,6 +6,7 @@
 
 mod grid_ops;
 mod junction_ops;
+mod lists;
 mod lookup_ops;
 mod mesh_ops;
 mod names;
@@ -18,47 +19,61 @@ mod verdict_ops;
 ghost use Rattle.std.specs.Prelude.{◌≡◌, ℕ, ◌<◌, true};
 ghost use Rattle.stored.specs.Words.{get_word};
 
-use names::name;
+use names::{at_limits, name};
 use std::io;
 use std::io::Read;
+use stored::answer::Answer;
 use stored::rounding_ops::may_panic;
-use stored::stream::{Cursor, list, next, start, word};
-use stored::text::{Tally, block_line, both, last_line, nothing};
+use stored::stream::{Words, word};
+use stored::text::{Tally, block_line, last_line};
 use stored::{rounding_ops, vector_ops};
 
-// How a case came out. The list goes on unless it is broken: it breaks off, or the case has more words
-// than there is room for.
+// How a case came out.
 #[derive(Clone, Copy)]
-enum Verdict {
+enum Outcome {
     Same,
     Differs,
     Skipped,
-    Broken,
 }
 
-#[derive(Clone, Copy)]
-struct Worked {
-    verdict: Verdict,
-    place: Cursor,
+impl Outcome {
+    // The tally of this one case.
+    fn tally(self) -> Tally {
+        match self {
+            Outcome::Same => Tally {
+                cases: 1,
+                differ: 0,
+                skipped: 0,
+            },
+            Outcome::Differs => Tally {
+                cases: 1,
+                differ: 1,
+                skipped: 0,
+            },
+            Outcome::Skipped => Tally {
+                cases: 1,
+                differ: 0,
+                skipped: 1,
+            },
+        }
+    }
 }
 
-// What is known after some cases: whether the list is broken there, their tally, how many stand before
-// the first that differs, and where the reading stands.
+// What is known after some cases of an operation: their tally, how many stand before the first that differs, and
+// whether the list is broken there: it breaks off, or the case has more words than there is room for.
 #[derive(Clone, Copy)]
 struct Run {
-    broken: bool,
     tally: Tally,
     first: u64,
-    place: Cursor,
+    broken: bool,
 }
 
-// What is known after some blocks.
-#[derive(Clone, Copy)]
-struct Progress {
-    more: bool,
-    broken: bool,
-    tally: Tally,
-    place: Cursor,
+// Memory for a case: what is given, what is wanted, and what is made.
+#[derive(Drop)]
+struct Memory {
+    given: [u32; 32768],
+    wanted: [u32; 32768],
+    made: [u32; 32768],
 }
 
 // Are the first n words the same?
@@ -73,284 +88,112 @@ fn same(a: &[u32], b: &[u32], n: usize) -> bool
     true
 }
 
-// The answer `made`, of n words, beside the one that is wanted.
-fn judge(op: u32, made: &[u32], n: usize, wanted: &[u32], count: usize) -> Verdict {
-    if n != count {
-        return Verdict::Differs;
+// Works an operation of any layer on the words given, and answers how many words it puts to the start of `made`.
+// There is none for an operation that is not known, and for a count of words that is not its own.
+fn work(op: u32, given: &[u32], made: &mut [u32]) -> Option<usize> {
+    let mut answer = Answer::new(made);
+    if given.is_empty() {
+        return None;
     }
-    if !same(made, wanted, n) {
-        return Verdict::Differs;
+    if given.len() == rounding_ops::takes(op) {
+        rounding_ops::work(op, given, &mut answer);
+    } else if given.len() == vector_ops::takes(op) {
+        vector_ops::work(op, given, &mut answer);
+    } else {
+        shape_ops::work(op, given, &mut answer)?;
     }
-    if may_panic(op) {
-        if word(wanted, 0) == 0 {
-            return Verdict::Skipped;
-        }
-    }
-    Verdict::Same
-}
-
-// Works an operation of any layer on the `size` words given, and answers how many words it puts to the
-// start of `made`: 0 for an operation that is not known, and for a count of words that is not its own.
-fn work(op: u32, given: &[u32], size: usize, made: &mut [u32]) -> usize {
-    if size == 0 {
-        return 0;
-    }
-    if size == rounding_ops::takes(op) {
-        return rounding_ops::work(op, given, made);
-    }
-    if size == vector_ops::takes(op) {
-        return vector_ops::work(op, given, made);
-    }
-    shape_ops::work(op, given, made)
+    Some(answer.count())
 }
 
 // Works one case. Where there is no answer, that is a difference.
-fn answer(
-    op: u32,
-    given: &[u32],
-    size: usize,
-    made: &mut [u32],
-    wanted: &[u32],
-    count: usize,
-) -> Verdict {
-    let n = work(op, given, size, made);
-    if n == 0 {
-        return Verdict::Differs;
+fn judge(op: u32, given: &[u32], made: &mut [u32], wanted: &[u32]) -> Outcome {
+    let n = work(op, given, made).unwrap_or(0);
+    if n == 0 || n != wanted.len() || !same(made, wanted, n) {
+        return Outcome::Differs;
     }
-    judge(op, made, n, wanted, count)
+    if may_panic(op) && word(wanted, 0) == 0 {
+        return Outcome::Skipped;
+    }
+    Outcome::Same
 }
 
-fn case(
-    op: u32,
-    input: &mut impl Read,
-    bytes: &mut [u8],
-    given: &mut [u32],
-    wanted: &mut [u32],
-    made: &mut [u32],
-    from: Cursor,
-) -> Worked {
-    let question = list(input, bytes, given, from);
-    let place = question.place;
-    if !question.whole {
-        return Worked {
-            verdict: Verdict::Broken,
-            place,
-        };
-    }
-    let expected = list(input, bytes, wanted, place);
-    let after = expected.place;
-    if !expected.whole {
-        return Worked {
-            verdict: Verdict::Broken,
-            place: after,
-        };
-    }
-    let verdict = answer(op, given, question.count, made, wanted, expected.count);
-    Worked {
-        verdict,
-        place: after,
-    }
-}
-
-// One case more in a tally.
-fn counted(t: Tally, verdict: Verdict) -> Tally {
-    match verdict {
-        Verdict::Same => both(
-            t,
-            Tally {
-                cases: 1,
-                differ: 0,
-                skipped: 0,
-            },
-        ),
-        Verdict::Differs => both(
-            t,
-            Tally {
-                cases: 1,
-                differ: 1,
-                skipped: 0,
-            },
-        ),
-        Verdict::Skipped => both(
-            t,
-            Tally {
-                cases: 1,
-                differ: 0,
-                skipped: 1,
-            },
-        ),
-        Verdict::Broken => t,
-    }
-}
-
-fn is_broken(verdict: Verdict) -> bool {
-    match verdict {
-        Verdict::Broken => true,
-        _ => false,
-    }
-}
-
-// One case more in a run.
-fn turn(
-    op: u32,
-    input: &mut impl Read,
-    bytes: &mut [u8],
-    given: &mut [u32],
-    wanted: &mut [u32],
-    made: &mut [u32],
-    run: Run,
-) -> Run {
-    let from = run.place;
-    let before = run.tally;
-    let worked = case(op, input, bytes, given, wanted, made, from);
-    let place = worked.place;
-    let verdict = worked.verdict;
-    let tally = counted(before, verdict);
-    let first = if tally.differ == 0 {
-        tally.cases
-    } else {
-        run.first
-    };
-    Run {
-        broken: is_broken(verdict),
-        tally,
-        first,
-        place,
-    }
+// Reads and works the next case, if it is whole.
+fn case<R: Read>(op: u32, input: &mut Words<R>, memory: &mut Memory) -> Option<Outcome> {
+    let Memory {
+        given,
+        wanted,
+        made,
+    } = memory;
+    let n = input.list(given)?;
+    let m = input.list(wanted)?;
+    Some(judge(op, &given[..n], made, &wanted[..m]))
 }
 
 // The n cases of an operation.
-fn cases(
-    op: u32,
-    n: u32,
-    input: &mut impl Read,
-    bytes: &mut [u8],
-    given: &mut [u32],
-    wanted: &mut [u32],
-    made: &mut [u32],
-    from: Cursor,
-) -> Run {
+fn cases<R: Read>(op: u32, n: u32, input: &mut Words<R>, memory: &mut Memory) -> Run {
     let mut run = Run {
-        broken: false,
-        tally: nothing(),
+        tally: Tally::default(),
         first: 0,
-        place: from,
+        broken: false,
     };
     for _ in 0..n {
-        run = turn(op, input, bytes, given, wanted, made, run);
-        if run.broken {
+        let Some(outcome) = case(op, input, memory) else {
+            run.broken = true;
             break;
+        };
+        run.tally = run.tally + outcome.tally();
+        if run.tally.differ == 0 {
+            run.first = run.tally.cases;
         }
     }
     run
 }
 
-// The line of a block, and its tally added to that of the blocks before it.
-fn added(out: &impl Print, op: u32, run: Run, all: Tally) -> io::Result<Progress> {
-    let tally = run.tally;
-    let place = run.place;
-    name(out, op)?;
-    block_line(out, tally, run.first)?;
-    Ok(Progress {
-        more: !run.broken,
-        broken: run.broken,
-        tally: both(all, tally),
-        place,
-    })
-}
-
-// The block of the operation `op`, whose number is read.
-fn block(
-    out: &impl Print,
-    op: u32,
-    input: &mut impl Read,
-    bytes: &mut [u8],
-    given: &mut [u32],
-    wanted: &mut [u32],
-    made: &mut [u32],
-    from: Cursor,
-    all: Tally,
-) -> io::Result<Progress> {
-    let size = next(input, bytes, from);
-    let place = size.place;
-    if !size.found {
-        return Ok(Progress {
-            more: false,
-            broken: true,
-            tally: all,
-            place,
-        });
-    }
-    let run = cases(op, size.word, input, bytes, given, wanted, made, place);
-    added(out, op, run, all)
-}
-
-// One block more, if there is one. A list ends well between two blocks, with no bytes left over.
-fn advance(
-    out: &impl Print,
-    input: &mut impl Read,
-    bytes: &mut [u8],
-    given: &mut [u32],
-    wanted: &mut [u32],
-    made: &mut [u32],
-    from: Cursor,
-    all: Tally,
-) -> io::Result<Progress> {
-    let head = next(input, bytes, from);
-    let place = head.place;
-    if !head.found {
-        return Ok(Progress {
-            more: false,
-            broken: place.spare > 0,
-            tally: all,
-            place,
-        });
-    }
-    block(
-        out, head.word, input, bytes, given, wanted, made, place, all,
-    )
-}
-
-// Block after block. A proved loop has to end, and nothing says that the input does, so the turns are
-// counted, up to a number that no run comes to.
-fn replay(
-    out: &impl Print,
-    input: &mut impl Read,
-    bytes: &mut [u8],
-    given: &mut [u32],
-    wanted: &mut [u32],
-    made: &mut [u32],
-) -> io::Result<Progress> {
-    let mut step = Progress {
-        more: true,
-        broken: false,
-        tally: nothing(),
-        place: start(),
-    };
-    for _ in 0..u64::MAX {
-        step = advance(
-            out, input, bytes, given, wanted, made, step.place, step.tally,
-        )?;
-        if !step.more {
-            break;
+// The name of an operation in its line.
+fn print_name(out: &impl Print, op: u32) -> io::Result<()> {
+    match at_limits(op) {
+        Some(name) => print!(out; "{name} at its limits"),
+        None => {
+            let name = name(op);
+            print!(out; "{name}")
         }
     }
-    Ok(step)
+}
+
+// Block after block: the tally of all, and whether the list is broken. It ends well between two blocks, with no
+// bytes left over. A proved loop has to end, and nothing says that the input does, so the turns are counted, up to a
+// number that no run comes to.
+fn replay<R: Read>(
+    out: &impl Print,
+    input: &mut Words<R>,
+    memory: &mut Memory,
+) -> io::Result<(Tally, bool)> {
+    let mut all = Tally::default();
+    for _ in 0..u64::MAX {
+        let Some(op) = input.word() else {
+            return Ok((all, input.is_torn()));
+        };
+        let Some(n) = input.word() else {
+            return Ok((all, true));
+        };
+        let run = cases(op, n, input, memory);
+        print_name(out, op)?;
+        block_line(out, run.tally, run.first)?;
+        all = all + run.tally;
+        if run.broken {
+            return Ok((all, true));
+        }
+    }
+    Ok((all, false))
 }
 
 fn main(rt: HostRuntime) -> io::Result<()> {
-    let mut input = rt.stdin();
-    let mut bytes = [0u8; 65536];
-    let mut given = [0u32; 32768];
-    let mut wanted = [0u32; 32768];
-    let mut made = [0u32; 32768];
-    let end = replay(
-        &rt,
-        &mut input,
-        &mut bytes,
-        &mut given,
-        &mut wanted,
-        &mut made,
-    )?;
-    last_line(&rt, end.tally, end.broken, end.place.read)
+    let mut input = Words::new(rt.stdin());
+    let mut memory = Memory {
+        given: [0; 32768],
+        wanted: [0; 32768],
+        made: [0; 32768],
+    };
+    let (tally, broken) = replay(&rt, &mut input, &mut memory)?;
+    last_line(&rt, tally, broken, input.count())
 }

@@ -1,24 +1,20 @@
 // Refusals as words.
 use shape::refusal::Refusal;
-use stored::lent::put_number;
+use stored::answer::Answer;
 
 // A refusal by its number in document 01's table, and the place.
-#[derive(Clone, Copy)]
-pub struct Reason {
-    pub number: usize,
-    pub place: usize,
+pub fn put_refusal(answer: &mut Answer, r: Refusal) {
+    answer.word(r.number());
+    answer.number(r.place());
 }
 
-pub fn reason_of(r: Refusal) -> Reason {
-    Reason {
-        number: shape::refusal::number(r) as usize,
-        place: shape::refusal::place(r),
+// 0 and how many there are, or a refusal.
+pub fn put_count(answer: &mut Answer, count: Result<usize, Refusal>) {
+    match count {
+        Ok(n) => {
+            answer.word(0);
+            answer.number(n);
+        }
+        Err(r) => put_refusal(answer, r),
     }
-}
-
-// A refusal to the front: its number and place.
-pub fn put_refusal(made: &mut [u32], r: Refusal) -> usize {
-    let t = reason_of(r);
-    put_number(made, 0, t.number);
-    put_number(made, 1, t.place)
 }

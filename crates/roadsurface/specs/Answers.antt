@@ -1,12 +1,9 @@
 -- What an exported function says of the inner call's answer: the code that it returns, and what it leaves in each number that it is lent. Definitions
 -- only. Assumes nothing.
-use Rattle.std.specs.Prelude.{ℕ, ◌+◌, ◌*◌, ◌^◌, Bool, cond, List, Float}
+use Rattle.std.specs.Prelude.{ℕ, ◌+◌, ◌*◌, ◌^◌, Bool, cond, List, Float, Option, Some, None}
 use Rattle.shape.specs.Refusal.{Answer, taken, refused}
-use Rattle.shape.specs.declared.elevation.Spot.{Spot}
-use Rattle.shape.specs.declared.elevation.Spot.TheVariants.{Missing, At}
 use Rattle.shape.specs.declared.elevation.ElevationGrid.{ElevationGrid}
-use Rattle.shape.specs.declared.junction.JunctionGrid.{JunctionGrid}
-use Rattle.shape.specs.declared.junction.JunctionGrid.TheVariants.{Absent, Present}
+use Rattle.shape.specs.Elevation.{Spot}
 use Rattle.shape.specs.Lists.{Mesh}
 use Rattle.shape.specs.Outline.{result_of}
 use Rattle.shape.specs.Verdict.{Validity, sound, empty, non_finite, out_of_range, degenerate}
@@ -39,12 +36,12 @@ bit_of b = cond b 1 0
 -- ---- a height in an elevation grid: 1 found or 0 none, and the height, which none leaves as it was
 
 unfoldable pub found_in : Spot → ℕ
-found_in (At z) = 1
-found_in Missing = 0
+found_in (Some z) = 1
+found_in None = 0
 
 unfoldable pub height_put : Spot → Float → Float
-height_put (At z) before = z
-height_put Missing before = before
+height_put (Some z) before = z
+height_put None before = before
 
 -- ---- the verdict on a mesh: its kind; the vertex or the triangle; the index that is past the vertices, and how many these are
 
@@ -86,8 +83,8 @@ abbrev pub grid_of : Float → Float → Float → Float → Float → Float →
 grid_of x y sin cos start spacing = record { origin_x = x; origin_y = y; sin = sin; cos = cos; start = start; spacing = spacing }
 
 -- a grid that may be missing
-unfoldable pub grid_if : Bool → ElevationGrid → JunctionGrid
-grid_if there g = cond there (Present g) Absent
+unfoldable pub grid_if : Bool → ElevationGrid → Option ElevationGrid
+grid_if there g = cond there (Some g) None
 
 -- ---- by other names
 

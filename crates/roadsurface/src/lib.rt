@@ -10,7 +10,7 @@ ghost use Rattle.shape.specs.Lists.{mesh_lists, mesh_fault};
 ghost use Rattle.shape.specs.Elevation.{height_answer, height_at_answer};
 ghost use Rattle.shape.specs.Outline.{outline_answer};
 ghost use Rattle.shape.specs.Ears.{ears_of, ears_answer};
-ghost use Rattle.shape.specs.JunctionMesh.{ground, ground_answer, ground_mesh, read_ground};
+ghost use Rattle.shape.specs.JunctionMesh.{ground, ground_answer, ground_mesh};
 ghost use Rattle.shape.specs.MeshMemory.{leaves_mesh};
 ghost use Rattle.shape.specs.SurfaceMesh.{given, mesh_of, answer_of};
 ghost use Rattle.shape.specs.Verdict.{validity_of};
@@ -22,17 +22,16 @@ ghost use Rattle.surface.specs.File.{words_of, bytes_of, read_of, write_of};
 ghost use Rattle.surface.specs.Report.{report_of, report_answer};
 ghost use Rattle.roadsurface.specs.Answers.{code_of, left_in, bit_of, found_in, height_put, kind_of, place_put, index_put, vertices_put, grid_of, grid_if, ring_floats, plain_answer};
 
-use crate::tell::{
-    tell_built, tell_copied, tell_ears, tell_elevation, tell_junction, tell_mesh, tell_outline,
-    tell_sampling, tell_verdict,
-};
+use crate::tell::{tell_count, tell_elevation, tell_mesh, tell_outline, tell_verdict};
 use lookup::batch::tops;
 use lookup::grid::build;
 use lookup::record::{height_record, top_record};
 use shape::ears::ear_clip;
-use shape::elevation::ElevationGrid;
-use shape::junction::{JunctionAnswer, JunctionGrid, mesh};
-use shape::mesh::surface_mesh;
+use shape::elevation::{ElevationGrid, Heights};
+use shape::junction::mesh;
+use shape::junction_areas::Boundary;
+use shape::lists::Mesh;
+use shape::mesh::{Lanes, surface_mesh};
 use shape::validate::validate;
 use shape::{elevation, junction_areas};
 use surface::file::{read, write};
@@ -40,32 +39,25 @@ use surface::report::report;
 
 mod tell;
 
-// The ground inside a boundary as triangles, by the grid if it is there.
-fn ground_mesh(
-    ring: &[f32],
-    there: bool,
-    grid: ElevationGrid,
-    rows: &[u32],
-    left: &[f64],
-    right: &[f64],
-    vertices: &mut [f32],
-    normals: &mut [f32],
-    indices: &mut [u32],
-) -> JunctionAnswer
-    ensures result_value { let g = ground ring.now (grid_if there grid) rows.now left.now right.now in
-        let before = mesh_lists vertices.old normals.old indices.old [] in
-        read_ground result ≡ ground_answer g before }
-    ensures mesh_after { let g = ground ring.now (grid_if there grid) rows.now left.now right.now in
-        let before = mesh_lists vertices.old normals.old indices.old [] in
-        let after = mesh_lists vertices.new normals.new indices.new [] in
-        after ≡ leaves_mesh (ground_answer g before) (ground_mesh g) before }
+// The numbers of an elevation grid as they are lent.
+fn grid_of(
+    origin_x: f64,
+    origin_y: f64,
+    sin: f64,
+    cos: f64,
+    start: f64,
+    spacing: f64,
+) -> ElevationGrid
+    ensures { result ≡ grid_of origin_x origin_y sin cos start spacing }
 {
-    if there {
-        let g = JunctionGrid::Present(grid);
-        return mesh(ring, g, rows, left, right, vertices, normals, indices);
+    ElevationGrid {
+        origin_x,
+        origin_y,
+        sin,
+        cos,
+        start,
+        spacing,
     }
-    let g = JunctionGrid::Absent;
-    mesh(ring, g, rows, left, right, vertices, normals, indices)
 }
 
 // The height of an elevation grid at s along and t to the left of its reference line: 1 found or 0 none.
@@ -88,15 +80,9 @@ pub extern "C" fn rs_elevation_height(
     ensures height_after { let a = height_answer (grid_of origin_x origin_y sin cos start spacing) rows.now left.now right.now s t in
         height.new ≡ left_in height_put a height.old }
 {
-    let grid = ElevationGrid {
-        origin_x: origin_x,
-        origin_y: origin_y,
-        sin: sin,
-        cos: cos,
-        start: start,
-        spacing: spacing,
-    };
-    let a = elevation::height(grid, rows, left, right, s, t);
+    let grid = grid_of(origin_x, origin_y, sin, cos, start, spacing);
+    let heights = Heights { rows, left, right };
+    let a = elevation::height(grid, heights, s, t);
     tell_elevation(a, height)
 }
 
@@ -120,15 +106,9 @@ pub extern "C" fn rs_elevation_height_at(
     ensures height_after { let a = height_at_answer (grid_of origin_x origin_y sin cos start spacing) rows.now left.now right.now x y in
         height.new ≡ left_in height_put a height.old }
 {
-    let grid = ElevationGrid {
-        origin_x: origin_x,
-        origin_y: origin_y,
-        sin: sin,
-        cos: cos,
-        start: start,
-        spacing: spacing,
-    };
-    let under = elevation::height_at(grid, rows, left, right, x, y);
+    let grid = grid_of(origin_x, origin_y, sin, cos, start, spacing);
+    let heights = Heights { rows, left, right };
+    let under = elevation::height_at(grid, heights, x, y);
     tell_elevation(under, height)
 }
 
@@ -154,7 +134,7 @@ pub extern "C" fn rs_ring(
     ensures turned_after { let a = outline_answer segments.now points.now (length ring.old) in
         turned.new ≡ left_in (λ o _. bit_of o.turned) a turned.old }
 {
-    let a = junction_areas::ring(segments, points, ring);
+    let a = junction_areas::ring(Boundary { segments, points }, ring);
     tell_outline(a, dropped, gap, closed, turned)
 }
 
@@ -164,12 +144,13 @@ pub extern "C" fn rs_ear_clip(ring: &[f32], ears: &mut [u32]) -> u64
     ensures result_value { let a = ears_answer ring.now (length ears.old) in result ≡ code_of (λ n. n) a }
     ensures ears_after { let a = ears_answer ring.now (length ears.old) in ears.new ≡ leaves a (ears_of ring.now) ears.old }
 {
-    let a = ear_clip(ring, ears);
-    tell_ears(a)
+    let clipped = ear_clip(ring, ears);
+    tell_count(clipped)
 }
 
 // The ground inside a boundary as triangles: how many vertices, and as many normals and indices. The grid is
 // there where `has_grid` is, and its numbers are not looked at else.
+#[tactic(auto, unfolding(crate::specs::Answers::grid_if))]
 #[unsafe(no_mangle)]
 pub extern "C" fn rs_junction_mesh(
     ring: &[f32],
@@ -195,18 +176,11 @@ pub extern "C" fn rs_junction_mesh(
         let after = mesh_lists vertices.new normals.new indices.new [] in
         after ≡ leaves_mesh (ground_answer g before) (ground_mesh g) before }
 {
-    let grid = ElevationGrid {
-        origin_x: origin_x,
-        origin_y: origin_y,
-        sin: sin,
-        cos: cos,
-        start: start,
-        spacing: spacing,
-    };
-    let a = ground_mesh(
-        ring, has_grid, grid, rows, left, right, vertices, normals, indices,
-    );
-    tell_junction(a)
+    let grid = grid_of(origin_x, origin_y, sin, cos, start, spacing);
+    let heights = Heights { rows, left, right };
+    let there = has_grid.then_some(grid);
+    let made = mesh(ring, there, heights, vertices, normals, indices);
+    tell_count(made)
 }
 
 // The strips of lanes: how many vertices. Told beside it: how many normals, indices and spans.
@@ -242,9 +216,14 @@ pub extern "C" fn rs_surface_mesh(
         let before = mesh_lists vertices.old normals.old indices.old spans.old in
         span_count.new ≡ left_in (λ m _. word_for m.spans) (answer_of g before) span_count.old }
 {
-    let a = surface_mesh(
-        points, tangents, widths, banks, lanes, vertices, normals, indices, spans,
-    );
+    let given = Lanes {
+        points,
+        tangents,
+        widths,
+        banks,
+        records: lanes,
+    };
+    let a = surface_mesh(given, vertices, normals, indices, spans);
     tell_mesh(a, normal_count, index_count, span_count)
 }
 
@@ -266,8 +245,14 @@ pub extern "C" fn rs_height_at(
         let a = record_answer s (length words.old) in
         words.new ≡ leaves a (record_of s) words.old }
 {
-    let plain = height_record(vertices, normals, indices, spans, x, y, words);
-    tell_sampling(plain)
+    let mesh = Mesh {
+        vertices,
+        normals,
+        indices,
+        spans,
+    };
+    let plain = height_record(mesh, x, y, words);
+    tell_count(plain)
 }
 
 // Builds the index of a mesh: how many words it has.
@@ -283,8 +268,14 @@ pub extern "C" fn rs_build_index(
     ensures index_after { let a = build_of (mesh_lists vertices.now normals.now indices.now spans.now) (length index.old) in
         index.new ≡ leaves a (index_words vertices.now indices.now) index.old }
 {
-    let a = build(vertices, normals, indices, spans, index);
-    tell_built(a)
+    let mesh = Mesh {
+        vertices,
+        normals,
+        indices,
+        spans,
+    };
+    let built = build(mesh, index);
+    tell_count(built)
 }
 
 // The indexed lookup: 1 found or 0 none, and its record.
@@ -306,8 +297,14 @@ pub extern "C" fn rs_top(
         let a = record_answer s (length words.old) in
         words.new ≡ leaves a (record_of s) words.old }
 {
-    let one = top_record(vertices, normals, indices, spans, index, x, y, words);
-    tell_sampling(one)
+    let mesh = Mesh {
+        vertices,
+        normals,
+        indices,
+        spans,
+    };
+    let one = top_record(mesh, index, x, y, words);
+    tell_count(one)
 }
 
 // The indexed lookup at many points, eight words a point: how many points.
@@ -328,8 +325,14 @@ pub extern "C" fn rs_tops(
         let a = tops_of m index.now points.now (length records.old) in
         records.new ≡ leaves a (records_of m index.now points.now) records.old }
 {
-    let many = tops(vertices, normals, indices, spans, index, points, records);
-    tell_sampling(many)
+    let mesh = Mesh {
+        vertices,
+        normals,
+        indices,
+        spans,
+    };
+    let many = tops(mesh, index, points, records);
+    tell_count(many)
 }
 
 // The verdict on a mesh: its kind. Told beside it where that has them: the vertex or the triangle; the index
@@ -357,7 +360,13 @@ pub extern "C" fn rs_validate(
         let a = judge (mesh_fault m) (taken (validity_of vertices.now indices.now)) in
         vertex_count.new ≡ left_in vertices_put a vertex_count.old }
 {
-    let a = validate(vertices, normals, indices, spans);
+    let mesh = Mesh {
+        vertices,
+        normals,
+        indices,
+        spans,
+    };
+    let a = validate(mesh);
     tell_verdict(a, place, index, vertex_count)
 }
 
@@ -368,7 +377,7 @@ pub extern "C" fn rs_surface_read(bytes: &[u8], held: &mut [u32]) -> u64
     ensures held_after { let a = read_of bytes.now (length held.old) in held.new ≡ leaves a (words_of bytes.now) held.old }
 {
     let copied = read(bytes, held);
-    tell_copied(copied)
+    tell_count(copied)
 }
 
 // The bytes of a surface that is held in words: how many.
@@ -378,7 +387,7 @@ pub extern "C" fn rs_surface_write(held: &[u32], bytes: &mut [u8]) -> u64
     ensures bytes_after { let a = write_of held.now (length bytes.old) in bytes.new ≡ leaves a (bytes_of held.now) bytes.old }
 {
     let written = write(held, bytes);
-    tell_copied(written)
+    tell_count(written)
 }
 
 // The text that `probe` prints of a surface file: how many bytes.
@@ -388,5 +397,5 @@ pub extern "C" fn rs_report(bytes: &[u8], text: &mut [u8]) -> u64
     ensures text_after { let a = report_answer bytes.now (length text.old) in text.new ≡ leaves a (report_of bytes.now) text.old }
 {
     let reported = report(bytes, text);
-    tell_copied(reported)
+    tell_count(reported)
 }

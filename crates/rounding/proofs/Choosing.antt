@@ -3,10 +3,11 @@ use Rattle.std.proofs.Common.{◌≡◌, ℕ, zero, suc, ◌+◌, ◌-◌, ◌*�
 use lib.Arith.{lt→nleb}
 use lib.Bits.{bit_and}
 use lib.Ieee.{Float, nan, inf, fin, Format, prec, low, odd, hid, ones, top, of_fields, of_bits, to_bits, fits, is_nan, nan_bits, lt, le, ne}
-use lib.Ieee.Bits.{is_false, of_bits-to_bits, nan_bits_is, nan_bits_above}
+use lib.Dec.{not_T}
+use lib.Ieee.Bits.{is_true, is_false, of_bits-to_bits, nan_bits_is, nan_bits_above}
 use lib.Ieee.Scale.{finite}
 use Rattle.rounding.specs.Extremes.{first, ge, min_of, max_of, clamp_of, abs_of}
-use Rattle.rounding.proofs.Laws.Order.{not_nan_num, le_num_left, le_num_right, T_of, not-T-of, num_of_same, nan_of_differs}
+use Rattle.rounding.proofs.Laws.Order.{lt→not_le, le_of_not_lt, not_nan_num, le_num_left, le_num_right, T_of, not-T-of, num_of_same, nan_of_differs}
 use Rattle.rounding.specs.Numbers.{IsNum}
 use Rattle.rounding.proofs.Fields.{of_bits_is, low_part, no_nan}
 use Rattle.rounding.proofs.Words.{plain_word, masked}
@@ -38,6 +39,10 @@ module _ (rel : Float → Float → Bool) (x y : Float) where
   unfolding first
   takes_right e h = rw (num_is y (num_of_same y h), e) (both (is_nan x) y)
 
+  pub second : IsNum y → rel x y ≡ false → y ≡ first rel x y
+  unfolding first
+  second n e = rw (num_is y n, e) (both (is_nan x) y)
+
 pub min_left : (x y : Float) → le x y ≡ true → x ≡ min_of x y
 unfolding min_of
 min_left x y e = takes_left le x y (le_num_left x y (T_of e)) (le_num_right x y (T_of e)) e
@@ -45,6 +50,26 @@ min_left x y e = takes_left le x y (le_num_left x y (T_of e)) (le_num_right x y 
 pub max_left : (x y : Float) → le y x ≡ true → x ≡ max_of x y
 unfolding max_of
 max_left x y e = takes_left ge x y (le_num_right y x (T_of e)) (le_num_left y x (T_of e)) e
+
+-- by the test of the other order, as the code has it
+
+pub lt_not_le : (x y : Float) → lt x y ≡ true → le y x ≡ false
+lt_not_le x y e = is_false (le y x) (not_T (le y x) (lt→not_le x y (T_of e)))
+
+pub not_lt_le : (x y : Float) → ne x x ≡ false → lt x y ≡ false → IsNum y → le y x ≡ true
+not_lt_le x y h e q = is_true (le y x) (le_of_not_lt x y (num_of_same x h) q e)
+
+pub not_lt_ge : (x y : Float) → ne x x ≡ false → lt y x ≡ false → IsNum y → le x y ≡ true
+not_lt_ge x y h e q = is_true (le x y) (le_of_not_lt y x q (num_of_same x h) e)
+
+pub first_kept : (rel : Float → Float → Bool) (x y : Float) → ne x x ≡ false → (IsNum y → rel x y ≡ true) → x ≡ first rel x y
+first_kept rel x nan h e = beside_nan rel x
+first_kept rel x (inf s) h e = takes_left rel x (inf s) (num_of_same x h) tt (e tt)
+first_kept rel x (fin s m d) h e = takes_left rel x (fin s m d) (num_of_same x h) tt (e tt)
+
+pub after_nan : (rel : Float → Float → Bool) (x y : Float) → ne x x ≡ true → y ≡ first rel x y
+unfolding first
+after_nan rel x y e = subst (λ (z : Float). y ≡ first rel z y) (sym (nan_of_differs x e)) refl
 
 -- ---- between two bounds
 

@@ -9,8 +9,10 @@ use lib.Ieee.{Float, nan, inf, fin, Format, up, down, prec, emax, low, round, to
 use lib.Ieee.Fits.{two, reach, two-le_pos}
 use lib.Ieee.Exact.{HasValue, round_exact}
 use lib.Ieee.Positive.{first_pos}
-use Rattle.rounding.specs.Steps.{Wholes, limit_of, size_of, addend_of, way_of}
-use Rattle.rounding.specs.Whole.{Way, toward, half, away, moves, one_if, whole_by}
+use Rattle.rounding.specs.Steps.{Wholes, limit_of, size_of, addend_of}
+use Rattle.rounding.specs.declared.whole.Way.{Way}
+use Rattle.rounding.specs.declared.whole.Way.TheVariants.{TowardZero, HalfAway, AwayFromZero}
+use Rattle.rounding.specs.Whole.{moves, one_if, whole_by}
 use Rattle.rounding.proofs.Laws.Basics.{leb_same, div_at, emax_ge, ones_ge}
 use Rattle.rounding.proofs.Laws.Whole.{whole_by_same, whole_by_is, size_one}
 use Rattle.rounding.proofs.Pattern.{twice, bits_of}
@@ -40,8 +42,8 @@ whole_bits f s K q h o a b e = bits_of f s (round f s K 1) q h (round_whole f s 
 -- ---- adding the step
 
 pub steps : (w : Way) (a d : ℕ) → 2 ≤ d → d % 2 ≡ 0 → (a + addend_of w d) / d ≡ a / d + one_if (moves w (a % d) d)
-steps toward a d D e = ap (λ (x : ℕ). x / d) (add-zero a) ∙ sym (add-zero (a / d))
-steps half a d D e = go (leb d (2 * (a % d))) (leb→le d (2 * (a % d))) (nleb→lt d (2 * (a % d)))
+steps TowardZero a d D e = ap (λ (x : ℕ). x / d) (add-zero a) ∙ sym (add-zero (a / d))
+steps HalfAway a d D e = go (leb d (2 * (a % d))) (leb→le d (2 * (a % d))) (nleb→lt d (2 * (a % d)))
   where
     go : (b : Bool) → (T b → d ≤ 2 * (a % d)) → (T (not b) → 2 * (a % d) < d) → (a + d / 2) / d ≡ a / d + one_if b
     go true y n =
@@ -53,7 +55,7 @@ steps half a d D e = go (leb d (2 * (a % d))) (leb→le d (2 * (a % d))) (nleb�
         let x = div-add-mod' a d in
         let z = n tt in
         div_at (a + d / 2) d (a / d + 0) (a % d + d / 2) (omega arith) (omega arith)
-steps away a d D e = go (leb 1 (a % d)) (leb→le 1 (a % d)) (nleb→lt 1 (a % d))
+steps AwayFromZero a d D e = go (leb 1 (a % d)) (leb→le 1 (a % d)) (nleb→lt 1 (a % d))
   where
     go : (b : Bool) → (T b → 1 ≤ a % d) → (T (not b) → a % d < 1) → (a + (d - 1)) / d ≡ a / d + one_if b
     go true y n =
@@ -147,9 +149,9 @@ unchanged f s w b l g =
 -- ---- digits below one: they are cut off, after the step
 
 pub step_lt : (w : Way) (d : ℕ) → 2 ≤ d → addend_of w d < d
-step_lt toward d h = omega arith
-step_lt half d h = omega arith
-step_lt away d h = omega arith
+step_lt TowardZero d h = omega arith
+step_lt HalfAway d h = omega arith
+step_lt AwayFromZero d h = omega arith
 
 -- a multiple of U in front does not matter
 front : (c x U : ℕ) → 0 < U → c * U + x - (c * U + x) % U ≡ c * U + x / U * U
@@ -267,8 +269,8 @@ rises f s w b l e =
 
 -- where that is, by the bits
 pub moves_at : (f : Format) (w : Way) (b : ℕ) → b / hid f < emax f → moves w (size_of (prec f) b) (2 ^ low f) ≡ leb (limit_of w ((emax f - 1) * hid f) (emax f * hid f)) b
-moves_at f toward b l = sym (is_false (leb (emax f * hid f) b) (lt→nleb (emax f * hid f) b ((div-lt_iff_lt-mul (pow_pos (prec f - 1))).0 l)))
-moves_at f half b l = leb_same (2 ^ low f) (2 * size_of (prec f) b) ((emax f - 1) * hid f) b
+moves_at f TowardZero b l = sym (is_false (leb (emax f * hid f) b) (lt→nleb (emax f * hid f) b ((div-lt_iff_lt-mul (pow_pos (prec f - 1))).0 l)))
+moves_at f HalfAway b l = leb_same (2 ^ low f) (2 * size_of (prec f) b) ((emax f - 1) * hid f) b
     (λ g. le_of_not_lt (λ (n : b < (emax f - 1) * hid f). lt_irrefl (2 ^ low f) (lt_of_le_of_lt g (less n))))
     (λ g. more ((le-div_iff_mul-le (pow_pos (prec f - 1))).1 g))
   where
@@ -298,14 +300,7 @@ moves_at f half b l = leb_same (2 ^ low f) (2 * size_of (prec f) b) ((emax f - 1
         let d = pow-add 2 (prec f - 1) (expo f b) in
         let k : 2 ^ low f ≡ 2 ^ (1 + (prec f - 1 + expo f b)) = ap (λ (y : ℕ). 2 ^ y) i in
         omega arith
-moves_at f away b l = leb_same 1 (size_of (prec f) b) 1 b (λ g. first g) (λ g. mul-pos ((parts f b).some g) (pow_pos (expo f b)))
+moves_at f AwayFromZero b l = leb_same 1 (size_of (prec f) b) 1 b (λ g. first g) (λ g. mul-pos ((parts f b).some g) (pow_pos (expo f b)))
   where
     first : 1 ≤ size_of (prec f) b → 1 ≤ b
     first g = le_trans (first_pos (digs f b) (2 ^ expo f b) g) (sub-le b (expo f b * hid f))
-
--- ---- the code's numbers for the ways
-
-pub way_other : (n : ℕ) → (n ≡ 0 → ⊥) → (n ≡ 1 → ⊥) → way_of n ≡ away
-way_other zero a b = absurd (a refl)
-way_other (suc zero) a b = absurd (b refl)
-way_other (suc (suc n)) a b = refl

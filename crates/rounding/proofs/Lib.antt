@@ -11,7 +11,9 @@ pub mod Pack
 pub mod Narrowing
 pub mod Length
 pub mod Words
+pub mod Ordered
 pub mod Choosing
+pub mod Special
 pub mod Counting
 pub mod Widening
 pub mod Nearby

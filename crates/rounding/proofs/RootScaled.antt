@@ -3,6 +3,7 @@ use Rattle.std.proofs.Common.{◌≡◌, ℕ, zero, suc, ◌+◌, ◌-◌, ◌*�
 use lib.Count.{count_leading_zeros, leading_top}
 use lib.Ieee.{Format, binary32, binary64, prec, emax, low}
 use Rattle.rounding.specs.Root.{root_of}
+use Rattle.rounding.specs.Binary.{LaidOut}
 use Rattle.rounding.specs.Steps.{Shaped, Root, Rooted, Radicand}
 use Rattle.rounding.proofs.RootLaw.{law, root_le}
 use Rattle.rounding.proofs.Pattern.{twice}
@@ -21,6 +22,20 @@ bounds_of binary64 = record { two = lit≤ tt; short = lit≤ tt; wide = lit< tt
 
 pub bounds : (p e : ℕ) → Shaped p e → Bounds p e
 bounds p e s = rw (s.digits, s.largest) at (bounds_of s.format)
+
+-- the numbers p and e that the code has from the format's type
+module _ {f : Format} {P E s i : ℕ} (o : LaidOut f P E s i) {p e : ℕ} (u : p ≡ P) (w : e ≡ E) where
+  pub prec_is : prec f ≡ p
+  prec_is = sym (u ∙ o.digits_is)
+
+  pub emax_is : emax f ≡ e
+  emax_is = sym (w ∙ o.largest_is)
+
+  pub shaped : Shaped p e
+  shaped = record { format = f; digits = prec_is; largest = emax_is }
+
+  pub known : Bounds p e
+  known = bounds p e shaped
 
 width_of : (f : Format) → (prec f ≡ 24 → ⊥) → prec f ≡ 53
 width_of binary32 n = absurd (n refl)

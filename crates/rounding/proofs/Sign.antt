@@ -9,8 +9,9 @@ use lib.Ieee.Digits.{odd_val}
 use lib.Ieee.Fits.{down_pos, round-fits}
 use lib.Ieee.Bits.{of_bits-to_bits, nan_bits_is, nan_bits_above}
 use lib.Ieee.Compare.{differs_from_itself}
-use Rattle.rounding.specs.Steps.{Wholes, size_of, way_of}
-use Rattle.rounding.specs.Whole.{Way, ways, whole_by, whole_of}
+use Rattle.rounding.specs.Steps.{Wholes, size_of}
+use Rattle.rounding.specs.declared.whole.Way.{Way}
+use Rattle.rounding.specs.Whole.{ways, whole_by, whole_of}
 use Rattle.rounding.proofs.Laws.Whole.{whole_by_same}
 use Rattle.rounding.proofs.Fields.{of_bits_is, field_some, low_part, under_top}
 use Rattle.rounding.proofs.Words.{sign_bit}
@@ -111,26 +112,22 @@ module _ (f : Format) (x : Float) (t : T (fits f x)) where
   pub sign_is : (s : Bool) → leb (top f) (to_bits f x) ≡ s → bit_and (to_bits f x) (top f) ≡ cond s (top f) 0
   sign_is s k = sign_bit f x t ∙ ap (λ (y : Bool). cond y (top f) 0) k
 
-  pub signed_by : (plus minus w r : ℕ) → sized f x < ones f * hid f → w ≡ cond (leb 1 (bit_and (to_bits f x) (top f))) minus plus → ((s : Bool) → Wholes f s (way_of w) (sized f x) r)
-      → of_bits f (bit_and (to_bits f x) (top f) + r) ≡ whole_of f (ways (way_of plus) (way_of minus)) x
+  pub signed_by : (plus minus w : Way) (r : ℕ) → sized f x < ones f * hid f → w ≡ cond (leb 1 (bit_and (to_bits f x) (top f))) minus plus → ((s : Bool) → Wholes f s w (sized f x) r)
+      → of_bits f (bit_and (to_bits f x) (top f) + r) ≡ whole_of f (ways plus minus) x
   signed_by plus minus w r l e h = go (leb (top f) (to_bits f x)) refl
     where
-      chosen : (f : Format) (s : Bool) → cond (leb 1 (cond s (top f) 0)) minus plus ≡ cond s minus plus
+      chosen : (f : Format) (s : Bool) → cond (leb 1 (cond s (top f) 0)) minus plus ≡ ways plus minus s
       chosen binary32 true = refl
       chosen binary32 false = refl
       chosen binary64 true = refl
       chosen binary64 false = refl
 
-      way : (s : Bool) → way_of (cond s minus plus) ≡ ways (way_of plus) (way_of minus) s
-      way true = refl
-      way false = refl
-
-      go : (s : Bool) → leb (top f) (to_bits f x) ≡ s → of_bits f (bit_and (to_bits f x) (top f) + r) ≡ whole_of f (ways (way_of plus) (way_of minus)) x
+      go : (s : Bool) → leb (top f) (to_bits f x) ≡ s → of_bits f (bit_and (to_bits f x) (top f) + r) ≡ whole_of f (ways plus minus) x
       go s k =
           let i = sign_is s k in
           let j = e ∙ ap (λ (y : ℕ). cond (leb 1 y) minus plus) i ∙ chosen f s in
           ap (λ (y : ℕ). of_bits f (y + r)) i
-          ∙ signed f (ways (way_of plus) (way_of minus)) x s r t l k (subst (λ (y : Way). Wholes f s y (sized f x) r) (ap way_of j ∙ way s) (h s))
+          ∙ signed f (ways plus minus) x s r t l k (subst (λ (y : Way). Wholes f s y (sized f x) r) j (h s))
 
 -- the result is no NaN's
 pub no_nan_bits : (f : Format) (s : Bool) (r : ℕ) → r < ones f * hid f → T (not (nan_bits f (cond s (top f) 0 + r)))

@@ -1,4 +1,5 @@
 -- The definitions, a file for each group of operations; what the private functions promise.
+pub mod Binary
 pub mod Root
 pub mod Whole
 pub mod Width

@@ -1,9 +1,11 @@
 -- What the private functions ask and promise: steps on the way to the operations, with the format as a parameter where both widths share a step.
 -- Definitions only. Assumes nothing.
-use Rattle.std.specs.Prelude.{◌≡◌, ℕ, zero, suc, ◌+◌, ◌-◌, ◌*◌, ◌/◌, ◌^◌, ◌<◌, ◌≤◌, Bool, cond, ◌≢◌, from_bits, to_bits, Float}
+use Rattle.std.specs.Prelude.{◌≡◌, ℕ, suc, ◌+◌, ◌-◌, ◌*◌, ◌/◌, ◌^◌, ◌<◌, ◌≤◌, Bool, cond, ◌≢◌, from_bits, to_bits, Float}
 use Rattle.std.specs.Float.{Format, binary32, binary64}
 use Rattle.std.specs.Float.Ieee.{prec, emax, low, round, hid, ones, top}
-use Rattle.rounding.specs.Whole.{Way, toward, half, away, whole_by}
+use Rattle.rounding.specs.declared.whole.Way.{Way}
+use Rattle.rounding.specs.declared.whole.Way.TheVariants.{TowardZero, HalfAway, AwayFromZero}
+use Rattle.rounding.specs.Whole.{whole_by}
 
 -- ---- both widths
 
@@ -39,23 +41,17 @@ pub record Rooted (f : Format) (v : Float) (b : ℕ) : Type 0 where
 
 -- ---- whole numbers
 
--- the code's numbers for the ways
-abbrev pub way_of : ℕ → Way
-way_of zero = toward
-way_of (suc zero) = half
-way_of (suc (suc n)) = away
-
 -- what is added to a multiple of d and r, so that the whole multiples of d in it are as many as `moves` says
 abbrev pub addend_of : Way → ℕ → ℕ
-addend_of toward d = 0
-addend_of half d = d / 2
-addend_of away d = d - 1
+addend_of TowardZero d = 0
+addend_of HalfAway d = d / 2
+addend_of AwayFromZero d = d - 1
 
 -- from where on a number below one goes to one, with the numbers for a half and for one
 abbrev pub limit_of : Way → ℕ → ℕ → ℕ
-limit_of toward h o = o
-limit_of half h o = h
-limit_of away h o = 1
+limit_of TowardZero h o = o
+limit_of HalfAway h o = h
+limit_of AwayFromZero h o = 1
 
 -- The size of the number with the bits b, in units of the smallest value, in a format with p digits, for bits with no sign.
 abbrev pub size_of : ℕ → ℕ → ℕ

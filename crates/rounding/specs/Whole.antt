@@ -2,16 +2,14 @@
 use Rattle.std.specs.Prelude.{ℕ, ◌+◌, ◌*◌, ◌/◌, ◌%◌, Bool, true, false, cond, nat_le, Float}
 use Rattle.std.specs.Float.{nan, inf, fin, Format}
 use Rattle.std.specs.Float.Ieee.{up, down, round}
-
--- where a size that is not whole goes: toward zero, to the nearest with a half away from zero, or away from zero
-pub data Way : Type 0 where
-  toward half away : Way
+use Rattle.rounding.specs.declared.whole.Way.{Way}
+use Rattle.rounding.specs.declared.whole.Way.TheVariants.{TowardZero, HalfAway, AwayFromZero}
 
 -- whether the size goes up by one, with r / d left over
 abbrev pub moves : Way → ℕ → ℕ → Bool
-moves toward r d = false
-moves half r d = nat_le d (2 * r)
-moves away r d = nat_le 1 r
+moves TowardZero r d = false
+moves HalfAway r d = nat_le d (2 * r)
+moves AwayFromZero r d = nat_le 1 r
 
 abbrev pub one_if : Bool → ℕ
 one_if true = 1
@@ -33,10 +31,10 @@ abbrev pub ways : Way → Way → Bool → Way
 ways plus minus s = cond s minus plus
 
 abbrev pub floor_of : Format → Float → Float
-floor_of f = whole_of f (ways toward away)
+floor_of f = whole_of f (ways TowardZero AwayFromZero)
 
 abbrev pub ceil_of : Format → Float → Float
-ceil_of f = whole_of f (ways away toward)
+ceil_of f = whole_of f (ways AwayFromZero TowardZero)
 
 abbrev pub round_of : Format → Float → Float
-round_of f = whole_of f (ways half half)
+round_of f = whole_of f (ways HalfAway HalfAway)

@@ -8,46 +8,28 @@ ghost use Rattle.rounding.specs.Stored.{stored_of};
 pub fn from_bits32(word: u32) -> f32
     ensures { result ≡ from_bits binary32 word }
 {
-    if (word & 0x7fff_ffff) > 0x7f80_0000 {
-        return 0.0 / 0.0;
-    }
-    f32::from_bits(word)
+    std::num::f32_from_bits_with_nan(word)
 }
 
 // The double with the bits `high` and `low`, 32 each.
 pub fn from_bits64(low: u32, high: u32) -> f64
     ensures { result ≡ from_bits binary64 (high * 2 ^ 32 + low) }
 {
-    let word = (high as u64) * 0x1_0000_0000 + (low as u64);
-    if (word & 0x7fff_ffff_ffff_ffff) > 0x7ff0_0000_0000_0000 {
-        return 0.0 / 0.0;
-    }
-    f64::from_bits(word)
+    std::num::f64_from_bits_with_nan((high as u64) * 0x1_0000_0000 + (low as u64))
 }
 
 // The bits of x, a NaN's as 7fc00000.
 pub fn bits32(x: f32) -> u32
     ensures { result ≡ to_bits binary32 x }
 {
-    if x != x { 0x7fc0_0000 } else { f32::to_bits(x) }
+    std::num::f32_to_bits_with_nan(x)
 }
 
 // The bits of x, a NaN's as 7ff8000000000000.
 pub fn bits64(x: f64) -> u64
     ensures { result ≡ to_bits binary64 x }
 {
-    if x != x {
-        0x7ff8_0000_0000_0000
-    } else {
-        f64::to_bits(x)
-    }
-}
-
-// A word as a place in a list.
-pub fn wide(x: u32) -> usize
-    ensures { result ≡ x }
-{
-    x as usize
+    std::num::f64_to_bits_with_nan(x)
 }
 
 // The bits of x as the index and the printed text store them: a NaN's as 7fc00000, any zero's as 0.

@@ -4,88 +4,38 @@ ghost use Rattle.std.specs.Prelude.{◌≡◌};
 ghost use Rattle.std.specs.Float.Ieee.Scale.{finite};
 ghost use Rattle.rounding.specs.Extremes.{min_of, max_of, clamp_of, abs_of};
 
-pub fn min32(x: f32, y: f32) -> f32
-    ensures { result ≡ min_of x y }
+use crate::binary::{Binary, size};
+
+pub fn min<T: Binary>(x: T, y: T) -> T
+    ensures { T.float result ≡ min_of (T.float x) (T.float y) }
 {
-    if x <= y {
-        return x;
-    }
-    if y != y { x } else { y }
+    if y < x || x != x { y } else { x }
 }
 
-pub fn max32(x: f32, y: f32) -> f32
-    ensures { result ≡ max_of x y }
+pub fn max<T: Binary>(x: T, y: T) -> T
+    ensures { T.float result ≡ max_of (T.float x) (T.float y) }
 {
-    if y <= x {
-        return x;
-    }
-    if y != y { x } else { y }
+    if x < y || x != x { y } else { x }
 }
 
-pub fn clamp32(x: f32, lo: f32, hi: f32) -> f32
-    ensures { result ≡ clamp_of x lo hi }
+pub fn clamp<T: Binary>(x: T, lo: T, hi: T) -> T
+    ensures { T.float result ≡ clamp_of (T.float x) (T.float lo) (T.float hi) }
 {
     let y = if x < lo { lo } else { x };
     if hi < y { hi } else { y }
 }
 
-pub fn abs32(x: f32) -> f32
-    ensures { result ≡ abs_of x }
+pub fn abs<T: Binary>(x: T) -> T
+    ensures { T.float result ≡ abs_of (T.float x) }
 {
     if x != x {
         return x;
     }
-    f32::from_bits(f32::to_bits(x) & 0x7fff_ffff)
+    T::of_bits(size(x))
 }
 
-pub fn is_finite32(x: f32) -> bool
-    ensures { result ≡ finite x }
+pub fn is_finite<T: Binary>(x: T) -> bool
+    ensures { result ≡ finite (T.float x) }
 {
-    if x < 1.0 / 0.0 {
-        return x > -1.0 / 0.0;
-    }
-    false
-}
-
-pub fn min64(x: f64, y: f64) -> f64
-    ensures { result ≡ min_of x y }
-{
-    if x <= y {
-        return x;
-    }
-    if y != y { x } else { y }
-}
-
-pub fn max64(x: f64, y: f64) -> f64
-    ensures { result ≡ max_of x y }
-{
-    if y <= x {
-        return x;
-    }
-    if y != y { x } else { y }
-}
-
-pub fn clamp64(x: f64, lo: f64, hi: f64) -> f64
-    ensures { result ≡ clamp_of x lo hi }
-{
-    let y = if x < lo { lo } else { x };
-    if hi < y { hi } else { y }
-}
-
-pub fn abs64(x: f64) -> f64
-    ensures { result ≡ abs_of x }
-{
-    if x != x {
-        return x;
-    }
-    f64::from_bits(f64::to_bits(x) & 0x7fff_ffff_ffff_ffff)
-}
-
-pub fn is_finite64(x: f64) -> bool
-    ensures { result ≡ finite x }
-{
-    if x < 1.0 / 0.0 {
-        return x > -1.0 / 0.0;
-    }
-    false
+    x.is_number()
 }

@@ -7,6 +7,7 @@ use crate::root::sqrt64;
 use crate::width::{narrow, widen};
 
 // a * a + b * b in double. Both squares are exact there, and only the sum rounds.
+#[tactic(auto, unfolding(crate::specs::Hypot::squares_of))]
 pub fn squares(a: f32, b: f32) -> f64
     ensures { result ≡ squares_of a b }
 {
@@ -15,6 +16,7 @@ pub fn squares(a: f32, b: f32) -> f64
     x * x + y * y
 }
 
+#[tactic(auto, unfolding(crate::specs::Hypot::hypot_of))]
 pub fn hypot(a: f32, b: f32) -> f32
     ensures { result ≡ hypot_of a b }
 {

@@ -2,6 +2,7 @@
 // Every function takes every float: no contract asks anything of its caller.
 #![tactic(auto)]
 
+pub mod binary;
 pub mod bits;
 pub mod compare;
 pub mod count;

@@ -1,29 +1,24 @@
 -- Roots written one by one to the start of a list. Assumes nothing.
-use Prim.Native.Nat.{ℕ, zero, suc, ◌+◌, ◌<◌}
-use mathlib.Core.Path.{◌≡◌, refl, ap}
-use mathlib.Core.List.{List, [], ◌∷◌}
+use Rattle.std.proofs.Common.{◌≡◌, ℕ, zero, suc, ◌+◌, ◌<◌, List, [], ◌∷◌, length, get_or, refl, ap}
 use native.Mathlib.Numerals.{add-one}
 use native.Mathlib.Nat.{not-suc-le-zero, le_of_suc-le-suc}
-use lib.Ieee.{Float, Format}
-use lib.ListN.{length, get_or, set}
-use Rattle.rounding.specs.Root.{sqrt_of}
-use Rattle.roundingc.specs.Arrays.{rooted}
+use lib.ListN.{set}
+use Rattle.roundingc.specs.Arrays.{mapped}
 
-module _ (f : Format) (d : Float) where
-  pub rooted_more : (i : ℕ) (xs out : List Float) → i < length xs → i < length out → set (rooted f i xs out) i (sqrt_of f (get_or xs i d)) ≡ rooted f (suc i) xs out
-  unfolding rooted
-  rooted_more i [] out h k = absurd (not-suc-le-zero h)
-  rooted_more i (x ∷ xs) [] h k = absurd (not-suc-le-zero k)
-  rooted_more zero (x ∷ xs) (y ∷ ys) h k = refl
-  rooted_more (suc i) (x ∷ xs) (y ∷ ys) h k =
-      ap (λ (r : List Float). sqrt_of f x ∷ r) (rooted_more i xs ys (le_of_suc-le-suc h) (le_of_suc-le-suc k))
+module _ {A : Type 0} (h : A → A) where
+  mapped_more : (d : A) (i : ℕ) (xs out : List A) → i < length xs → i < length out → set (mapped h i xs out) i (h (get_or xs i d)) ≡ mapped h (suc i) xs out
+  unfolding mapped
+  mapped_more d i [] out l k = absurd (not-suc-le-zero l)
+  mapped_more d i (x ∷ xs) [] l k = absurd (not-suc-le-zero k)
+  mapped_more d zero (x ∷ xs) (y ∷ ys) l k = refl
+  mapped_more d (suc i) (x ∷ xs) (y ∷ ys) l k = ap (λ (r : List A). h x ∷ r) (mapped_more d i xs ys (le_of_suc-le-suc l) (le_of_suc-le-suc k))
 
-pub rooted_none : (f : Format) (xs out : List Float) → out ≡ rooted f 0 xs out
-unfolding rooted
-rooted_none f xs out = refl
+  pub mapped_none : (xs out : List A) → out ≡ mapped h 0 xs out
+  unfolding mapped
+  mapped_none xs out = refl
 
--- one turn of the loop
-pub rooted_turn :
-    (f : Format) (d : Float) (i : ℕ) (xs out now : List Float) (r : Float) → now ≡ rooted f i xs out → r ≡ sqrt_of f (get_or xs i d) → i < length xs →
-    i < length out → set now i r ≡ rooted f (i + 1) xs out
-rooted_turn f d i xs out now r e q h k = rw (add-one, e, q) (rooted_more f d i xs out h k)
+  -- one turn of the loop
+  pub mapped_turn :
+      (d : A) (i : ℕ) (xs out now : List A) (r : A) → now ≡ mapped h i xs out → r ≡ h (get_or xs i d) → i < length xs → i < length out →
+      set now i r ≡ mapped h (i + 1) xs out
+  mapped_turn d i xs out now r e q l k = rw (add-one, e, q) (mapped_more d i xs out l k)

@@ -1,10 +1,9 @@
 -- The cases of document 01 that are marked [P]: one list of tests over the definitions, and the one sentence that is of all grids, proved together. Assumes nothing.
-use Rattle.std.specs.Prelude.{◌≡◌, ℕ, Bool, true, false, List, [], ◌∷◌, ◌++◌, length, Float}
+use Rattle.std.specs.Prelude.{◌≡◌, ℕ, Bool, true, false, List, [], ◌∷◌, ◌++◌, length, Float, None}
 use Rattle.shape.proofs.CaseTests.{all}
 use Rattle.shape.specs.Refusal.{taken, judge}
 use Rattle.shape.specs.Elevation.{row_count, grid_fault, height_answer}
 use Rattle.shape.specs.declared.elevation.ElevationGrid.{ElevationGrid}
-use Rattle.shape.specs.declared.elevation.Spot.TheVariants.{Missing}
 use Rattle.shape.proofs.CasesElevation.{height_cases, height_cases_lem, one_row}
 use Rattle.shape.proofs.CasesEars.{ear_cases, ear_cases_lem}
 use Rattle.shape.proofs.CasesJunction.{junction_cases, junction_cases_lem}
@@ -18,7 +17,7 @@ cases = height_cases ++ (ear_cases ++ (junction_cases ++ strip_cases))
 abbrev pub OneRowAlone : Type 0
 OneRowAlone =
     (rows : List ℕ) (left right : List Float) → row_count rows ≡ 1 → (g : ElevationGrid) (s t : Float)
-    → height_answer g rows left right s t ≡ judge (grid_fault rows (length left) (length right)) (taken Missing)
+    → height_answer g rows left right s t ≡ judge (grid_fault rows (length left) (length right)) (taken None)
 
 all_both : (a b : List Bool) → all a ≡ true → all b ≡ true → all (a ++ b) ≡ true
 unfolding all

@@ -57,5 +57,5 @@ strip_cases =
     ∷ []
 
 pub strip_cases_lem : all strip_cases ≡ true
-unfolding same all Ieee.of_bits Ieee.to_bits Ieee.of_fields Ieee.odd Ieee.add Ieee.sub Ieee.mul Ieee.div Ieee.neg Ieee.lt Ieee.le Ieee.eq Ieee.sum Ieee.round Ieee.units Ieee.span Ieee.climb Ieee.size Ieee.is_nan count_trailing_zeros Root.root_in Root.isqrt Root.root_of Root.sqrt_of Extremes.first Extremes.min_of Extremes.max_of Extremes.clamp_of Extremes.abs_of Coords.point_sub Coords.point_add Coords.point_sub_vector Coords.vector_add Coords.vector_sub Coords.vector_mul Coords.vector_neg Coords.dot_of Coords.cross_of Coords.length_squared_of Coords.length_of Coords.distance_of Coords.zero_vector Coords.up_vector Coords.normalize_or Coords.normalize_or_zero Coords.is_zero Coords.turned_of Coords.rotate_about Coords.all_finite Coords.point_finite Coords.vector_finite Geometry.horizontal_of Geometry.left_normal_of Gather.gather Gather.any Refusal.number_of Refusal.place_of Refusal.found Refusal.refuse Refusal.or_else Refusal.judge Refusal.leaves Lists.longer Lists.uneven Lists.point_at Lists.vector_at Lists.word_of Lists.last_end Lists.run_bad Lists.run_long Lists.run_of Lists.mesh_fault Strip.step_of Strip.keeps_step Strip.keeps Strip.weld_next Strip.welded Strip.end_kept Strip.kept_of Strip.kept Strip.kept_point Strip.leg_of Strip.no_leg Strip.leg_in Strip.leg_out Strip.along_of Strip.grade_of Strip.slope_of Strip.lateral_of Strip.half_of Strip.shorter_of Strip.eat_square_of Strip.eat_of Strip.pinches Strip.inner_of Strip.turns_left Strip.spread_of Strip.rib_at Strip.six_of Strip.ups_of Strip.no_area Strip.triangle_of Strip.segment_of Strip.vertices_of Strip.normals_of Strip.indices_of SurfaceMesh.lane_run SurfaceMesh.lane_at SurfaceMesh.lane_limits SurfaceMesh.runs_ragged SurfaceMesh.lane_ragged SurfaceMesh.input_fault SurfaceMesh.lane_vertices SurfaceMesh.lane_normals SurfaceMesh.lane_indices SurfaceMesh.span_of SurfaceMesh.lane_span SurfaceMesh.mesh_of SurfaceMesh.counts_of SurfaceMesh.read_mesh SurfaceMesh.call_fault SurfaceMesh.answer_of MeshMemory.result_limits MeshMemory.result_short MeshMemory.room_fault
+unfolding same all Ieee.of_bits Ieee.to_bits Ieee.of_fields Ieee.odd Ieee.add Ieee.sub Ieee.mul Ieee.div Ieee.neg Ieee.lt Ieee.le Ieee.eq Ieee.sum Ieee.round Ieee.units Ieee.span Ieee.climb Ieee.size Ieee.is_nan count_trailing_zeros Root.root_in Root.isqrt Root.root_of Root.sqrt_of Extremes.first Extremes.min_of Extremes.max_of Extremes.clamp_of Extremes.abs_of Coords.point_sub Coords.point_add Coords.point_sub_vector Coords.vector_add Coords.vector_sub Coords.vector_mul Coords.vector_neg Coords.dot_of Coords.cross_of Coords.length_squared_of Coords.length_of Coords.distance_of Coords.zero_vector Coords.up_vector Coords.normalize_or Coords.normalize_or_zero Coords.is_zero Coords.turned_of Coords.rotate_about Coords.all_finite Coords.point_finite Coords.vector_finite Geometry.horizontal_of Geometry.left_normal_of Gather.gather Gather.any Refusal.number_of Refusal.place_of Refusal.found Refusal.refuse Refusal.or_else Refusal.judge Refusal.leaves Lists.longer Lists.uneven Lists.point_at Lists.vector_at Lists.word_of Lists.last_end Lists.run_bad Lists.run_long Lists.run_of Lists.mesh_fault Strip.step_of Strip.keeps_step Strip.keeps Strip.weld_next Strip.welded Strip.end_kept Strip.kept_of Strip.kept Strip.kept_point Strip.leg_of Strip.no_leg Strip.leg_in Strip.leg_out Strip.along_of Strip.grade_of Strip.slope_of Strip.lateral_of Strip.half_of Strip.shorter_of Strip.eat_square_of Strip.eat_of Strip.pinches Strip.inner_of Strip.turns_left Strip.spread_of Strip.rib_at Strip.six_of Strip.ups_of Strip.no_area Strip.triangle_of Strip.segment_of Strip.vertices_of Strip.normals_of Strip.indices_of SurfaceMesh.lane_run SurfaceMesh.lane_at SurfaceMesh.lane_limits SurfaceMesh.runs_ragged SurfaceMesh.lane_ragged SurfaceMesh.input_fault SurfaceMesh.lane_vertices SurfaceMesh.lane_normals SurfaceMesh.lane_indices SurfaceMesh.span_of SurfaceMesh.lane_span SurfaceMesh.mesh_of SurfaceMesh.counts_of SurfaceMesh.call_fault SurfaceMesh.answer_of MeshMemory.result_limits MeshMemory.result_short MeshMemory.room_fault
 strip_cases_lem = refl

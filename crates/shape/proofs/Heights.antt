@@ -1,5 +1,5 @@
 -- Laws behind the height in a junction: heights of a run, lines held with 2,048 added, the place of a coordinate, and what a pass over the rows shows. Assumes nothing.
-use Rattle.std.proofs.Common.{◌≡◌, ℕ, zero, suc, ◌+◌, ◌-◌, ◌*◌, ◌/◌, ◌^◌, ◌<◌, ◌≤◌, min, true, false, T, List, length, get_or, drop, pos, negsuc, neg_ℤ, sym, refl, zero-lt-suc, arith, le→leb, length-drop, length-take, get_or-drop, get_or-take, le-ltb, lt-ltb}
+use Rattle.std.proofs.Common.{◌≡◌, ℕ, zero, suc, ◌+◌, ◌-◌, ◌*◌, ◌/◌, ◌^◌, ◌<◌, ◌≤◌, min, true, false, T, List, length, get_or, drop, pos, negsuc, neg_ℤ, sym, refl, zero-lt-suc, arith, le→leb, length-drop, length-take, get_or-drop, get_or-take, le-ltb, lt-ltb, Some, None}
 use native.Mathlib.Decide.{dec_lt}
 use lib.IntN.{suc_ℤ, pred_ℤ, sub_ℕ}
 use lib.Ieee.{Float, nan, inf, fin, binary64, up, down, le, neg, round, of_bits, of_int, in_float, to_unsigned, to_signed}
@@ -14,23 +14,22 @@ use Rattle.shape.proofs.Laws.Lists.{short}
 use Rattle.shape.specs.Elevation.{nth, part, floored, longest, widest_of, row_count, count}
 use Rattle.shape.specs.ElevationSteps.{1024d, Near}
 use Rattle.shape.specs.declared.elevation.Run.{Run}
-use Rattle.shape.specs.declared.elevation.Spot.TheVariants.{Missing, At}
 
 -- ---- height n of a run
 
 module _ (xs : List Float) (a : Run) (n : ℕ) where
-  pub held : a.start + n < a.end → a.start + n < length xs → At (get_or xs (a.start + n) nan) ≡ nth (part xs a) n
+  pub held : a.start + n < a.end → a.start + n < length xs → Some (get_or xs (a.start + n) nan) ≡ nth (part xs a) n
   unfolding nth
   held h k =
       let e : n < length (part xs a) = simp (length-take, length-drop) (omega arith) in
       let l : n < a.end - a.start = omega arith in
       rw (lt-ltb n (length (part xs a)) e, get_or-take (a.end - a.start) (drop a.start xs) n nan l, get_or-drop)
 
-  pub short_run : a.end ≤ a.start + n → Missing ≡ nth (part xs a) n
+  pub short_run : a.end ≤ a.start + n → None ≡ nth (part xs a) n
   unfolding nth
   short_run h = let e : length (part xs a) ≤ n = simp (length-take, length-drop) (omega arith) in rw (le-ltb n (length (part xs a)) e)
 
-  pub short_list : length xs ≤ a.start + n → Missing ≡ nth (part xs a) n
+  pub short_list : length xs ≤ a.start + n → None ≡ nth (part xs a) n
   unfolding nth
   short_list h = let e : length (part xs a) ≤ n = simp (length-take, length-drop) (omega arith) in rw (le-ltb n (length (part xs a)) e)
 

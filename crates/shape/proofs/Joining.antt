@@ -1,5 +1,6 @@
 -- Joining boundary segments: coordinates of a list of points, the segments that are not empty, and one segment more. Assumes nothing.
 use Rattle.std.proofs.Common.{◌≡◌, ℕ, zero, suc, ◌+◌, ◌-◌, ◌*◌, ◌/◌, ◌<◌, ◌≤◌, min, Bool, true, false, ltb, List, [], ◌∷◌, ◌++◌, length, get_or, take, drop, sym, refl, ap, ◌∙◌, add-zero, one-mul, zero-add, add-one, arith, length-append, length-drop, length-take, ltb-false, le-ltb, lt-ltb}
+use Rattle.std.specs.Prelude.{Ok, Err}
 use native.Mathlib.Decide.{dec_lt}
 use lib.Ieee.{Float, lt, le}
 use lib.ListN.{get_or-append}
@@ -11,16 +12,16 @@ use Rattle.vector.specs.declared.coords.Point.{Point}
 use Rattle.shape.specs.declared.junction_areas.Gap.{Gap}
 use Rattle.shape.specs.declared.junction_areas.RingSoFar.{RingSoFar}
 use Rattle.shape.specs.declared.junction_areas.Joined.{Joined}
-use Rattle.shape.specs.declared.junction_areas.OutlineAnswer.TheVariants.{Made, Refused}
 use Rattle.shape.specs.declared.refusal.Refusal.{Refusal}
 use Rattle.shape.specs.declared.refusal.Refusal.TheVariants.{ShortOutput}
 use Rattle.shape.specs.Gather.{gather, any}
 use Rattle.shape.specs.Memory.{Put}
-use Rattle.shape.specs.Refusal.{fine, fault, refuse, judge, leaves, number_of, place_of}
+use Rattle.shape.specs.Refusal.{fine, fault, found, refuse, judge, told, leaves, number_of, place_of}
 use Rattle.shape.proofs.Laws.Refusal.{passed, else_passed}
 use Rattle.shape.specs.Lists.{longer, uneven, point_at, start_of, end_of, last_end, run_bad, run_of}
-use Rattle.shape.specs.Outline.{reach_of, place_from, point_from, first_of, final_of, solid_at, solid, segment_of, segment_at, origin, head_of, last_of, is_new, added, extended, turns_first, turns_later, turns_at, gap_at, Line, joined, closing, closed_up, side_at, area_to, reversed_at, reversed, flat, widest, whole_line, dropped_of, ring_of, turned_of, result_of, outline_of, outline_limits, outline_ragged, outline_fault, short_fault, outline_answer, read_outline, Outlines}
-use Rattle.shape.specs.OutlineSteps.{SoundLists, Holds, Joins}
+use Rattle.shape.specs.Outline.{reach_of, place_from, point_from, first_of, final_of, solid_at, solid, solids, segment_of, segment_at, origin, head_of, last_of, is_new, added, extended, turns_first, turns_later, turns_at, gap_at, Line, joined, closing, closed_up, side_at, area_to, reversed_at, reversed, flat, widest, whole_line, dropped_of, ring_of, turned_of, result_of, outline_of, outline_limits, outline_ragged, outline_fault, short_fault, outline_answer, Outlines}
+use Rattle.shape.specs.OutlineSteps.{SoundLists, Holds, Skips, Adds}
+use Rattle.shape.specs.OutlineJoins.{Joins}
 use Rattle.shape.proofs.Laws.Gather.{gather_next, gather_fits, gather_even}
 use Rattle.shape.proofs.Laws.Lists.{Sound, sound}
 use Rattle.shape.proofs.Laws.Memory.{sets_append, sets_front, take_sets_front}
@@ -195,54 +196,69 @@ module _ (ws : List ℕ) (xs : List Float) where
   gap_suc (suc i) end gap h = refl
 
   -- a later segment
-  module _ (k : ℕ) (h : k < length ws / 2) (l : start_of 2 0 ws k < end_of 2 0 ws k) (i : ℕ) (e : i ≡ length (solid ws k)) (s : List Float) (is : s ≡ segment_of ws xs k) where
-    same : s ≡ segment_at ws xs i
-    same = is ∙ sym (rw e (segment_here ws k xs h l))
+  pub turn_later_at : (i : ℕ) (s : List Float) (end : Point) (gap : Float) (b : Bool) (g : Float) → s ≡ segment_at ws xs i → (i ≡ 0 → ⊥)
+      → (b ≡ turns_later end s) × (g ≡ max_of gap (reach_of end (point_from (turns_later end s) s 0)))
+      → (b ≡ turns_at ws xs i end) × (g ≡ gap_at ws xs i end gap)
+  turn_later_at i s end gap b g is z r = (rw (turns_suc i end z, ← is) r.0, rw (gap_suc i end gap z, ← is) r.1)
 
+  module _ (k : ℕ) (h : k < length ws / 2) (l : start_of 2 0 ws k < end_of 2 0 ws k) (i : ℕ) (e : i ≡ length (solid ws k)) (s : List Float) (is : s ≡ segment_of ws xs k) where
     pub at_later : (end : Point) (gap : Float) (b : Bool) (g : Float) → (i ≡ 0 → ⊥)
         → (b ≡ turns_later end s) × (g ≡ max_of gap (reach_of end (point_from (turns_later end s) s 0)))
         → (b ≡ turns_at ws xs i end) × (g ≡ gap_at ws xs i end gap)
-    at_later end gap b g z r = (rw (turns_suc i end z, ← same) r.0, rw (gap_suc i end gap z, ← same) r.1)
+    at_later end gap b g = turn_later_at i s end gap b g (is ∙ sym (rw e (segment_here ws k xs h l)))
 
   -- the first segment, with no second, and with one
+  pub turn_alone : (end : Point) → solids ws ≡ 1 → false ≡ turns_at ws xs 0 end
+  unfolding turns_at
+  turn_alone end z = rw z
+
+  pub turn_followed : (s t : List Float) (end : Point) → s ≡ segment_at ws xs 0 → t ≡ segment_at ws xs 1 → 1 < solids ws → turns_first s t ≡ turns_at ws xs 0 end
+  unfolding turns_at
+  turn_followed s t end a b two = rw (lt-ltb 1 (length (solid ws (length ws / 2))) two, ← a, ← b)
+
   module _ (k : ℕ) (h : k < length ws / 2) (l : start_of 2 0 ws k < end_of 2 0 ws k) (e : length (solid ws k) ≡ 0) where
     pub alone : (end : Point) → length (solid ws (length ws / 2)) ≡ length (solid ws (k + 1)) → false ≡ turns_at ws xs 0 end
-    unfolding turns_at
-    alone end n = let z : length (solid ws (length ws / 2)) ≡ 1 = n ∙ solid_more ws k l ∙ ap suc e in rw z
+    alone end n = turn_alone end (n ∙ solid_more ws k l ∙ ap suc e)
 
     pub followed : (end : Point) (next : ℕ) → next < length ws / 2 → start_of 2 0 ws next < end_of 2 0 ws next
         → length (solid ws next) ≡ length (solid ws (k + 1))
         → turns_first (segment_of ws xs k) (segment_of ws xs next) ≡ turns_at ws xs 0 end
-    unfolding turns_at
     followed end next m t n =
         let one : length (solid ws next) ≡ 1 = n ∙ solid_more ws k l ∙ ap suc e in
-        let two : 1 < length (solid ws (length ws / 2)) = omega (arith, solid_fits ws next (length ws / 2) m t, one) in
-        let a = rw e at (segment_here ws k xs h l) in
-        let b = rw one at (segment_here ws next xs m t) in
-        rw (lt-ltb 1 (length (solid ws (length ws / 2))) two, a, b)
+        turn_followed (segment_of ws xs k) (segment_of ws xs next) end (sym (rw e at (segment_here ws k xs h l)))
+        (sym (rw one at (segment_here ws next xs m t))) (omega (arith, solid_fits ws next (length ws / 2) m t, one))
 
 -- ---- a segment more
 
 module _ (ws : List ℕ) (xs blank : List Float) (k : ℕ) {m : List Float} {j : Joined} (at : Joins ws xs blank m k j) where
-  pub join_none : end_of 2 0 ws k ≤ start_of 2 0 ws k → Joins ws xs blank m (k + 1) j
-  join_none h = let e = solid_same ws k h in record { holds = rw e at.holds; solids = rw e at.solids; gap = rw e at.gap }
+  pub join_passed : length (solid ws (k + 1)) ≡ length (solid ws k) → Joins ws xs blank m (k + 1) j
+  join_passed e = record { holds = rw e at.holds; solids = rw e at.solids; gap = rw e at.gap }
 
-  pub join_more : {m' : List Float} (s : List Float) (back : Bool) (gap : Gap) (h : RingSoFar) → k < length ws / 2 → start_of 2 0 ws k < end_of 2 0 ws k
-      → s ≡ segment_of ws xs k → (back ≡ turns_at ws xs j.segments j.ring.last) × (gap.root ≡ gap_at ws xs j.segments j.ring.last j.gap.root)
-      → Holds blank m' (extended (joined ws xs (length (solid ws k))).ring back s (length s / 3)) h
-      → Joins ws xs blank m' (k + 1) (record { ring = h; segments = j.segments + 1; gap = gap })
-  unfolding joined
-  join_more s back gap h n l is t w =
-      let e = solid_more ws k l in
-      let i = length (solid ws k) in
-      let here = is ∙ sym (segment_here ws k xs n l) in
-      let b : back ≡ turns_at ws xs i (last_of (joined ws xs i).ring) = rw (← at.holds.end, ← at.solids) t.0 in
-      let g : gap.root ≡ gap_at ws xs i (last_of (joined ws xs i).ring) (joined ws xs i).gap = rw (← at.holds.end, ← at.gap, ← at.solids) t.1 in
-      record {
-        holds = rw (e, ← b, ← here) w;
-        solids = rw (e, at.solids) (add-one i);
-        gap = rw e g;
-      }
+  pub join_none : end_of 2 0 ws k ≤ start_of 2 0 ws k → Joins ws xs blank m (k + 1) j
+  join_none h = join_passed (solid_same ws k h)
+
+  module _ {m' : List Float} (s : List Float) (back : Bool) (gap : Gap) (h : RingSoFar) where
+    pub join_next : length (solid ws (k + 1)) ≡ length (solid ws k) + 1 → s ≡ segment_at ws xs (length (solid ws k))
+        → (back ≡ turns_at ws xs j.segments j.ring.last) × (gap.root ≡ gap_at ws xs j.segments j.ring.last j.gap.root)
+        → Holds blank m' (extended (joined ws xs (length (solid ws k))).ring back s (length s / 3)) h
+        → Joins ws xs blank m' (k + 1) (record { ring = h; segments = j.segments + 1; gap = gap })
+    unfolding joined
+    join_next n here t w =
+        let i = length (solid ws k) in
+        let e : length (solid ws (k + 1)) ≡ suc i = omega arith in
+        let b : back ≡ turns_at ws xs i (last_of (joined ws xs i).ring) = rw (← at.holds.end, ← at.solids) t.0 in
+        let g : gap.root ≡ gap_at ws xs i (last_of (joined ws xs i).ring) (joined ws xs i).gap = rw (← at.holds.end, ← at.gap, ← at.solids) t.1 in
+        record {
+          holds = rw (e, ← b, ← here) w;
+          solids = rw (e, at.solids) (add-one i);
+          gap = rw e g;
+        }
+
+    pub join_more : k < length ws / 2 → start_of 2 0 ws k < end_of 2 0 ws k
+        → s ≡ segment_of ws xs k → (back ≡ turns_at ws xs j.segments j.ring.last) × (gap.root ≡ gap_at ws xs j.segments j.ring.last j.gap.root)
+        → Holds blank m' (extended (joined ws xs (length (solid ws k))).ring back s (length s / 3)) h
+        → Joins ws xs blank m' (k + 1) (record { ring = h; segments = j.segments + 1; gap = gap })
+    join_more n l is = join_next (omega (arith, solid_more ws k l)) (is ∙ sym (segment_here ws k xs n l))
 
 -- ---- the ring as a whole
 
@@ -264,6 +280,17 @@ count_closed ring h = rw (h, length-take) (omega arith)
 pub count_open : (ring : List Point) → closing ring ≡ false → length ring ≡ length (closed_up ring)
 unfolding closed_up
 count_open ring h = rw h
+
+-- how many points are left with a closing point, and with none
+module _ (xs : List Float) (ring : List Point) (e : xs ≡ flat ring) where
+  pub one_less : 1 < length xs / 3 → le (reach_of (first_of xs) (final_of xs)) milli ≡ true → length xs / 3 - 1 ≡ length (closed_up ring)
+  one_less n h = rw (← (count_closed ring (closing_is xs ring true e n h)), e, flat_count ring)
+
+  pub all_far : 1 < length xs / 3 → le (reach_of (first_of xs) (final_of xs)) milli ≡ false → length xs / 3 ≡ length (closed_up ring)
+  all_far n h = rw (← (count_open ring (closing_is xs ring false e n h)), e, flat_count ring)
+
+  pub all_few : length xs / 3 ≤ 1 → length xs / 3 ≡ length (closed_up ring)
+  all_few n = let k : length ring ≤ 1 = rw (e, flat_count ring) at n in rw (← (count_open ring (closing_few ring k)), e, flat_count ring)
 
 pub area_next : (ring : List Point) (i : ℕ) → 1 ≤ i → area_to ring (i + 1 - 1) ≡ area_to ring (i - 1) ⊕ side_at ring i
 unfolding area_to
@@ -297,6 +324,10 @@ sound_lists ws xs e =
       runs = (passed runs 2 0 _ pairs.1).0;
     }
 
+pub last_end_next : (ws : List ℕ) (k : ℕ) → last_end 2 0 ws (k + 1) ≡ end_of 2 0 ws k
+unfolding last_end
+last_end_next ws k = rw (add-one k)
+
 module _ {ws : List ℕ} {xs : List Float} (s : SoundLists ws xs) (k : ℕ) (h : k < length ws / 2) where
   pub run_sound : Sound 2 0 ws (length xs / 3) k
   run_sound = sound 2 0 ws (length xs / 3) (length ws / 2) k h s.runs
@@ -310,9 +341,20 @@ module _ {ws : List ℕ} {xs : List Float} (s : SoundLists ws xs) (k : ℕ) (h :
   unfolding segment_of run_of
   segment_count = let r = run_sound in simp (length-take, length-drop) (omega arith)
 
-pub last_end_next : (ws : List ℕ) (k : ℕ) → last_end 2 0 ws (k + 1) ≡ end_of 2 0 ws k
-unfolding last_end
-last_end_next ws k = rw (add-one k)
+  pub skips : end_of 2 0 ws k ≤ start_of 2 0 ws k → Skips ws k
+  skips e = let r = run_sound in record { next = solid_same ws k e; after = rw (last_end_next ws k) (omega (arith, r.after, r.order)) }
+
+  pub adds : (a e : ℕ) → a ≡ start_of 2 0 ws k → e ≡ end_of 2 0 ws k → a < e → Adds ws xs k (take (3 * e - 3 * a) (drop (3 * a) xs))
+  adds a e p q l =
+      let r = run_sound in
+      let t : start_of 2 0 ws k < end_of 2 0 ws k = omega arith in
+      let part = segment_part a e p q in
+      record {
+        next = omega (arith, solid_more ws k t);
+        here = part ∙ sym (segment_here ws k xs h t);
+        below = solid_fits ws k (length ws / 2) h t;
+        after = rw (last_end_next ws k) (omega (arith, r.after, ap length part, segment_count));
+      }
 
 pub last_end_within : {ws : List ℕ} {xs : List Float} → SoundLists ws xs → (k : ℕ) → k ≤ length ws / 2 → last_end 2 0 ws k ≤ length xs / 3
 unfolding last_end
@@ -338,25 +380,37 @@ pub widest_is : (l : Line) (xs : List Float) (gap g d : Float) (p q : Point) →
 unfolding widest
 widest_is l xs gap g d p q e h a b s t = rw (← (flat_final xs l.ring e), ← (flat_first xs l.ring e), ← h, ← s, ← t, ← b) a
 
+-- there is room for n points
+pub room : (before : List Float) (n : ℕ) → found (Ok tt) ≡ refuse (ltb (length before) (3 * n)) 3 (3 * n) fine → 3 * n ≤ length before
+unfolding found
+room before n e = ltb-false (length before) (3 * n) (passed (ltb (length before) (3 * n)) 3 (3 * n) fine (sym e)).0
+
 module _ (ws : List ℕ) (xs before : List Float) where
   -- the lists are turned back
-  pub lists_refused : (r : Refusal) → outline_fault ws xs ≡ fault (number_of r) (place_of r) → Outlines ws xs before before (Refused r)
-  unfolding outline_answer judge read_outline leaves
-  lists_refused r e = record { given = rw e; memory = rw e }
+  pub lists_told : (r : Refusal) → found (Err r) ≡ outline_fault ws xs → Outlines ws xs before before (Err r)
+  unfolding found outline_answer judge told leaves
+  lists_told r e = record { given = rw (← e); memory = rw (← e) }
+
+  pub lists_refused : (r : Refusal) → outline_fault ws xs ≡ fault (number_of r) (place_of r) → Outlines ws xs before before (Err r)
+  unfolding found
+  lists_refused r e = lists_told r (sym e)
 
   -- the output is short
+  pub short_told : (r : Refusal) (n : ℕ) → outline_fault ws xs ≡ fine → n ≡ length (ring_of ws xs)
+      → found (Err r) ≡ refuse (ltb (length before) (3 * n)) 3 (3 * n) fine → Outlines ws xs before before (Err r)
+  unfolding found outline_answer judge told leaves short_fault
+  short_told r n e c h = let s = rw c at h in record { given = rw (e, ← s); memory = rw (e, ← s) }
+
   pub short_refused : (n : ℕ) → outline_fault ws xs ≡ fine → n ≡ length (ring_of ws xs) → length before < 3 * n
-      → Outlines ws xs before before (Refused (ShortOutput (3 * n)))
-  unfolding outline_answer judge read_outline number_of place_of leaves short_fault refuse
-  short_refused n e c h =
-      let t : ltb (length before) (3 * length (ring_of ws xs)) ≡ true = rw (← c) (lt-ltb (length before) (3 * n) h) in
-      record { given = rw (e, t, c); memory = rw (e, t) }
+      → Outlines ws xs before before (Err (ShortOutput (3 * n)))
+  unfolding found number_of place_of refuse
+  short_refused n e c h = short_told (ShortOutput (3 * n)) n e c (rw (lt-ltb (length before) (3 * n) h))
 
   -- the call is taken
-  pub ring_made : (after : List Float) (n d : ℕ) (g : Float) (t : Bool) (q : ℕ) → outline_fault ws xs ≡ fine → n ≡ length (ring_of ws xs) → 3 * n ≤ length before
-      → d ≡ dropped_of ws → g ≡ widest (whole_line ws xs) → t ≡ turned_of (ring_of ws xs) → Put before after 0 (flat (reversed t (ring_of ws xs))) q
-      → Outlines ws xs before after (Made (record { count = n; dropped = d; gap = g; closed = le g tenth; turned = t }))
-  unfolding outline_answer judge read_outline leaves short_fault refuse outline_of result_of
+  pub ring_made : (after : List Float) (n d : ℕ) (g : Float) (t : Bool) (q : ℕ) → outline_fault ws xs ≡ fine → n ≡ length (ring_of ws xs)
+      → 3 * n ≤ length before → d ≡ dropped_of ws → g ≡ widest (whole_line ws xs) → t ≡ turned_of (ring_of ws xs) → Put before after 0 (flat (reversed t (ring_of ws xs))) q
+      → Outlines ws xs before after (Ok (record { count = n; dropped = d; gap = g; closed = le g tenth; turned = t }))
+  unfolding outline_answer judge told leaves short_fault refuse outline_of result_of
   ring_made after n d g t q e c h dr gp tu w =
       let s : ltb (length before) (3 * length (ring_of ws xs)) ≡ false = rw (← c) (le-ltb (length before) (3 * n) h) in
       let put = rw tu at w.memory in

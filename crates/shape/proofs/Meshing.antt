@@ -1,16 +1,15 @@
 -- One lane more: its room, what it adds to the sizes, and what it adds to the memory; and from the checks to the answer. Assumes nothing.
-use Rattle.std.proofs.Common.{◌≡◌, ℕ, zero, suc, ◌+◌, ◌-◌, ◌*◌, ◌/◌, ◌^◌, ◌<◌, ◌≤◌, Bool, true, false, List, [], ◌∷◌, length, take, drop, sym, refl, ap, ◌∙◌, subst, zero-add, arith, length-append, length-take, ltb-false}
+use Rattle.std.proofs.Common.{◌≡◌, ℕ, zero, suc, ◌+◌, ◌-◌, ◌*◌, ◌/◌, ◌^◌, ◌<◌, ◌≤◌, Bool, true, false, List, [], ◌∷◌, length, take, drop, sym, refl, ap, ◌∙◌, subst, zero-add, arith, length-append, length-take, ltb-false, Result, Ok, Err}
 use lib.Ieee.{Float, lt}
 use Rattle.rounding.specs.Thresholds.{micro}
 use Rattle.shape.specs.declared.memory.Lengths.{Lengths}
 use Rattle.shape.specs.declared.mesh.MeshCounts.{MeshCounts}
-use Rattle.shape.specs.declared.mesh.MeshAnswer.TheVariants.{Made, Refused}
 use Rattle.shape.specs.declared.refusal.Refusal.{Refusal}
-use Rattle.shape.specs.declared.refusal.Check.TheVariants.{Faulty}
 use Rattle.shape.specs.declared.strip.At.{At}
 use Rattle.shape.specs.Gather.{gather, any}
 use Rattle.shape.specs.Memory.{Put}
-use Rattle.shape.specs.Refusal.{fine, found, number_of, place_of, taken, refused, judge}
+use Rattle.std.specs.Result.{is_ok}
+use Rattle.shape.specs.Refusal.{Fault, fine, found, told, taken, judge}
 use Rattle.shape.specs.Lists.{start_of, end_of, word_of, run_long, run_of, longer, Mesh, mesh_lists}
 use Rattle.shape.specs.MeshMemory.{lengths_of, room_fault, mesh_room, leaves_mesh}
 use Rattle.shape.specs.Strip.{Lane, welded, weld_next, keeps, step_of, end_kept, kept_of, kept, no_area, rib_at, triangle_of, indices_at, vertices_of, normals_of, indices_of}
@@ -32,24 +31,30 @@ use Rattle.shape.specs.SurfaceMesh.{
   input_fault,
   counts_of,
   call_fault,
-  read_mesh,
   answer_of,
 }
 use Rattle.shape.specs.MeshSteps.{lengths_at, Grown, Topped, Enough, Sizes, Room, Wrote, Written, Fitting}
-use Rattle.shape.proofs.Laws.Gather.{gather_next, gather_fits, gather_most}
+use Rattle.shape.proofs.Laws.Gather.{any_none, gather_next, gather_fits, gather_most}
 use Rattle.shape.proofs.Laws.Memory.{put_none, put_length, put_turn, put_front}
 use Rattle.shape.proofs.Laws.MeshMemory.{Fits, first_fine, both_fine, room_fits, fits_room, mesh_left, mesh_stays}
 use Rattle.shape.proofs.Laws.SurfaceMesh.{normals_match}
 use Rattle.shape.proofs.Strips.{vertices_length, segment_length, cond_few}
 
 -- a run that is not too long
+pub not_long : (ls : List ℕ) (k : ℕ) → run_long 10 1 ls 4096 k ≡ false → end_of 10 1 ls k - start_of 10 1 ls k ≤ 4096
+unfolding run_long
+not_long ls k h = ltb-false 4096 (end_of 10 1 ls k - start_of 10 1 ls k) h
+
 pub run_short : (xs : List Float) (ls : List ℕ) (k : ℕ) → run_long 10 1 ls 4096 k ≡ false → length (lane_run 3 xs ls 1 k) / 3 ≤ 4096
-unfolding lane_run run_of run_long
+unfolding lane_run run_of
 run_short xs ls k h =
     let s = start_of 10 1 ls k in
     let e = end_of 10 1 ls k in
-    let short : e - s ≤ 4096 = ltb-false 4096 (e - s) h in
-    omega (arith, length-take (3 * e - 3 * s) (drop (3 * s) xs), short)
+    omega (arith, length-take (3 * e - 3 * s) (drop (3 * s) xs), not_long ls k h)
+
+pub lane_short : (g : Given) (k : ℕ) → run_long 10 1 g.lanes 4096 k ≡ false → length (lane_at g k).points / 3 ≤ 4096
+unfolding lane_at
+lane_short g k h = run_short g.points g.lanes k h
 
 -- what the sizes gain by a lane whose kept points stand in m
 pub grow : (l : Lane) (m₀ m : List ℕ) (n : ℕ) (at : At) (i w : ℕ) → Put m₀ m 0 (kept l) n → n ≤ 4096 → length m₀ ≡ 4096
@@ -271,6 +276,15 @@ few_lanes g e =
     let h : length g.lanes ≤ 10 * 1024 = ltb-false (10 * 1024) (length g.lanes) (first_fine _ _ _ _ b.1).0 in
     (omega arith, a.0)
 
+pub short_lane : (g : Given) → input_fault g ≡ fine → (k : ℕ) → k < lanes_of g → run_long 10 1 g.lanes 4096 k ≡ false
+short_lane g e k h = any_none (run_long 10 1 g.lanes 4096) k (lanes_of g) h (few_lanes g e).1
+
+-- a check that lets the call pass
+pub ok_fine : (r : Result Unit Refusal) (f : Fault) → found r ≡ f → is_ok r ≡ true → fine ≡ f
+unfolding found
+ok_fine (Ok tt) f e h = e
+ok_fine (Err r) f e h = absurd (let z : ◌≡◌ {A = ℕ} 0 1 = cc in omega arith)
+
 same_lengths : {v v' n n' i i' s s' : ℕ} → v ≡ v' → n ≡ n' → i ≡ i' → s ≡ s'
     → ◌≡◌ {A = Lengths} (record { vertices = v; normals = n; indices = i; spans = s }) (record { vertices = v'; normals = n'; indices = i'; spans = s' })
 same_lengths a b c d = rw (a, b, c, d)
@@ -282,12 +296,12 @@ module _ (g : Given) (at : At) where
   all_lengths z = same_lengths z.floats (z.floats ∙ sym (normals_match g)) z.index z.word
 
   -- where the most fits, so does the mesh
-  pub most_fine : Enough g (lanes_of g) at → (lent : Lengths) → room_fault (lengths_at at) lent ≡ fine → room_fault (lengths_of (mesh_of g)) lent ≡ fine
+  pub most_fine : Enough g (lanes_of g) at → (lent : Lengths) → fine ≡ room_fault (lengths_at at) lent → fine ≡ room_fault (lengths_of (mesh_of g)) lent
   unfolding mesh_of
   most_fine z lent e =
-      let f = room_fits (lengths_at at) lent e in
+      let f = room_fits (lengths_at at) lent (sym e) in
       let n = normals_match g in
-      fits_room (lengths_of (mesh_of g)) lent
+      sym (fits_room (lengths_of (mesh_of g)) lent
       (record {
         few_vertices = omega (arith, z.floats, f.few_vertices);
         few_normals = omega (arith, n, z.floats, f.few_normals);
@@ -297,7 +311,7 @@ module _ (g : Given) (at : At) where
         normals = omega (arith, n, z.floats, f.normals);
         indices = omega (arith, z.index, f.indices);
         spans = omega (arith, z.word, f.spans);
-      })
+      }))
 
 -- what is written is what the definition counts
 pub written_sizes : (g : Given) (r : At) {v v' n n' : List Float} {i i' s s' : List ℕ} → Written g (lanes_of g) r v v' n n' i i' s s' → Sizes g (lanes_of g) r
@@ -309,14 +323,14 @@ written_sizes g r w =
     }
 
 -- a call that is not turned back
-module _ (g : Given) (v n : List Float) (i s : List ℕ) (e : call_fault g (lengths_of (mesh_lists v n i s)) ≡ fine) where
+module _ (g : Given) (v n : List Float) (i s : List ℕ) (e : fine ≡ call_fault g (lengths_of (mesh_lists v n i s))) where
   pub input_fine : input_fault g ≡ fine
   unfolding call_fault
-  input_fine = (both_fine (input_fault g) (mesh_room (mesh_of g) (mesh_lists v n i s)) e).0
+  input_fine = (both_fine (input_fault g) (mesh_room (mesh_of g) (mesh_lists v n i s)) (sym e)).0
 
   all_fits : Fits (lengths_of (mesh_of g)) (lengths_of (mesh_lists v n i s))
   unfolding call_fault
-  all_fits = room_fits _ _ (both_fine (input_fault g) (mesh_room (mesh_of g) (mesh_lists v n i s)) e).1
+  all_fits = room_fits _ _ (both_fine (input_fault g) (mesh_room (mesh_of g) (mesh_lists v n i s)) (sym e)).1
 
   pub fitting : Fitting g (lanes_of g) v n i s
   unfolding mesh_of
@@ -333,21 +347,17 @@ module _ (g : Given) (v n : List Float) (i s : List ℕ) (e : call_fault g (leng
 
   all_taken : taken (counts_of (lengths_of (mesh_of g))) ≡ answer_of g (mesh_lists v n i s)
   unfolding answer_of judge
-  all_taken = rw e
+  all_taken = rw (← e)
 
   pub made : (r : At) {v' n' : List Float} {i' s' : List ℕ} (c : MeshCounts) → c ≡ counts_of (lengths_at r) → Written g (lanes_of g) r v v' n n' i i' s s'
-      → (read_mesh (Made c) ≡ answer_of g (mesh_lists v n i s)) × (mesh_lists v' n' i' s' ≡ leaves_mesh (answer_of g (mesh_lists v n i s)) (mesh_of g) (mesh_lists v n i s))
-  unfolding read_mesh mesh_of
+      → (told (Ok c) ≡ answer_of g (mesh_lists v n i s)) × (mesh_lists v' n' i' s' ≡ leaves_mesh (answer_of g (mesh_lists v n i s)) (mesh_of g) (mesh_lists v n i s))
+  unfolding told mesh_of
   made r c k w =
       let t : taken c ≡ answer_of g (mesh_lists v n i s) = ap taken (k ∙ ap counts_of (all_lengths g r (written_sizes g r w))) ∙ all_taken in
       (t, mesh_left (mesh_of g) t w.vertices w.normals w.indices w.spans all_fits)
 
-answered : (g : Given) (before : Mesh) (r : Refusal) → call_fault g (lengths_of before) ≡ found (Faulty r) → refused (number_of r) (place_of r) ≡ answer_of g before
-unfolding answer_of judge found
-answered g before r e = rw e
-
 -- a call that is
-pub turned_back : (g : Given) (before : Mesh) (r : Refusal) → call_fault g (lengths_of before) ≡ found (Faulty r)
-    → (read_mesh (Refused r) ≡ answer_of g before) × (before ≡ leaves_mesh (answer_of g before) (mesh_of g) before)
-unfolding read_mesh
-turned_back g before r e = let t = answered g before r e in (t, mesh_stays (mesh_of g) before t)
+pub turned_back : (g : Given) (before : Mesh) (r : Refusal) → found (Err r) ≡ call_fault g (lengths_of before)
+    → (told (Err r) ≡ answer_of g before) × (before ≡ leaves_mesh (answer_of g before) (mesh_of g) before)
+unfolding told answer_of judge found
+turned_back g before r e = let t : told (Err r) ≡ answer_of g before = rw (← e) in (t, mesh_stays (mesh_of g) before t)

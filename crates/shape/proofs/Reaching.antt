@@ -21,7 +21,7 @@ use Rattle.vector.proofs.Laws.{square_least, sum_least}
 use Rattle.vector.specs.declared.coords.Point.{Point}
 use Rattle.shape.specs.declared.junction_areas.Gap.{Gap}
 use Rattle.shape.specs.Outline.{reach_of}
-use Rattle.shape.specs.OutlineSteps.{squares_between, rooted_of, wide, Wide, Squares, GapCovers}
+use Rattle.shape.specs.OutlineSteps.{squares_between, rooted_of, wide, Wide, Squares}
 
 -- ---- a root grows with its square
 
@@ -58,6 +58,13 @@ not_nearer a b s h = sym (lt_false (rooted_of a) (rooted_of b) (rooted_grows b a
 
 -- ---- the greatest gap
 
+true_of : (b : Bool) → T b → b ≡ true
+true_of true h = refl
+true_of false h = absurd h
+
+t_of : {b : Bool} → b ≡ true → T b
+t_of e = subst T (sym e) tt
+
 pick : (b : Bool) (x y : Float) → T b → cond b x y ≡ x
 pick true x y h = refl
 pick false x y h = absurd h
@@ -82,21 +89,26 @@ rooted_nan : rooted_of nan ≡ nan
 unfolding rooted_of
 rooted_nan = refl
 
-pub covers_more : (gap : Gap) (s r : Float) → GapCovers gap → T (lt gap.squares s) → r ≡ max_of gap.root (rooted_of s) → GapCovers (record { root = r; squares = s })
-covers_more gap s r c h e =
-    let n : T (le nought s) = le_trans nought gap.squares s c.least (le_of_lt gap.squares s h) in
-    record { least = n; under = rw e ((max_picks gap.root (rooted_of s)).right (rooted_num s n)) }
+-- a gap covers a root that is one more, with its squares, and that of no more squares
+module _ (gap : Gap) (s : Float) where
+  pub covers_least : lt gap.squares s ≡ true → le nought s ≡ true
+  covers_least h = true_of (le nought s) (le_trans nought gap.squares s (t_of gap.least) (le_of_lt gap.squares s (t_of h)))
 
-not_above : (gap : Gap) (s : Float) → GapCovers gap → T (le nought s) → T (le s gap.squares) → max_of gap.root (rooted_of s) ≡ gap.root
-not_above gap s c n h =
-    max_left gap.root (rooted_of s) (le_trans (rooted_of s) (rooted_of gap.squares) gap.root (rooted_grows s gap.squares n h) c.under)
+  pub covers_under : (r : Float) → lt gap.squares s ≡ true → r ≡ max_of gap.root (rooted_of s) → le (rooted_of s) r ≡ true
+  covers_under r h e =
+      true_of (le (rooted_of s) r) (rw e ((max_picks gap.root (rooted_of s)).right (rooted_num s (t_of (covers_least h)))))
 
-pub covers_same : (gap : Gap) (s : Float) → GapCovers gap → Squares s → lt gap.squares s ≡ false → gap.root ≡ max_of gap.root (rooted_of s)
+  not_above : T (le nought s) → T (le s gap.squares) → max_of gap.root (rooted_of s) ≡ gap.root
+  not_above n h =
+      max_left gap.root (rooted_of s) (le_trans (rooted_of s) (rooted_of gap.squares) gap.root (rooted_grows s gap.squares n h) (t_of gap.under))
+
+pub covers_same : (gap : Gap) (s : Float) → Squares s → lt gap.squares s ≡ false → gap.root ≡ max_of gap.root (rooted_of s)
 unfolding Squares
-covers_same gap nan c q h = sym (ap (max_of gap.root) rooted_nan ∙ max_nan gap.root)
-covers_same gap (inf s) c q h = sym (not_above gap (inf s) c (q tt) (le_of_not_lt gap.squares (inf s) (le_num_right nought gap.squares c.least) tt h))
-covers_same gap (fin s m e) c q h =
-    sym (not_above gap (fin s m e) c (q tt) (le_of_not_lt gap.squares (fin s m e) (le_num_right nought gap.squares c.least) tt h))
+covers_same gap nan q h = sym (ap (max_of gap.root) rooted_nan ∙ max_nan gap.root)
+covers_same gap (inf s) q h =
+    sym (not_above gap (inf s) (q tt) (le_of_not_lt gap.squares (inf s) (le_num_right nought gap.squares (t_of gap.least)) tt h))
+covers_same gap (fin s m e) q h =
+    sym (not_above gap (fin s m e) (q tt) (le_of_not_lt gap.squares (fin s m e) (le_num_right nought gap.squares (t_of gap.least)) tt h))
 
 -- ---- a difference of at least 0.002
 
@@ -153,10 +165,6 @@ sum_num f (fin s m e) nan h k = le_num_right nought nan k
 sum_num f (fin s m e) (inf t) h k = tt
 sum_num f (fin s m e) (fin t n d) h k = add_num f (fin s m e) (fin t n d) tt tt
 
-true_of : (b : Bool) → T b → b ≡ true
-true_of true h = refl
-true_of false h = absurd h
-
 -- squares of at least s and t, whose sum is enough
 enough : (x y s t : Float) → T (le nought s) → T (le nought t) → T (le s (mul binary64 x x)) → T (le t (mul binary64 y y))
     → T (lt milli (rooted_of (add binary64 s t))) → lt milli (hypot_of x y) ≡ true
@@ -198,6 +206,6 @@ pub own_number : (x : Float) → eq x x ≡ true → IsNum x
 own_number x e = le_num_left x x (le_of_eq x x (subst T (sym e) tt))
 
 -- no gap yet
-pub no_gap : GapCovers (record { root = of_bits binary32 0; squares = of_bits binary64 0 })
+pub no_gap : (le nought (of_bits binary64 0) ≡ true) × (le (rooted_of (of_bits binary64 0)) (of_bits binary32 0) ≡ true)
 unfolding rooted_of of_bits le
-no_gap = record { least = tt; under = tt }
+no_gap = (refl, refl)

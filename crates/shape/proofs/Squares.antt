@@ -1,10 +1,11 @@
 -- Laws behind the height in a junction: the lines around a square, the square itself, the squares that are tried, and the cases of the height. Assumes nothing.
-use Rattle.std.proofs.Common.{◌≡◌, ℕ, ◌+◌, ◌-◌, ◌*◌, ◌<◌, ◌≤◌, Bool, true, false, ◌&&◌, ◌||◌, T, eqb, List, length, ℤ, refl, ap, ◌∙◌, arith, le-ltb, lt-ltb}
+use Rattle.std.proofs.Common.{◌≡◌, ℕ, ◌+◌, ◌-◌, ◌*◌, ◌<◌, ◌≤◌, Bool, true, false, ◌&&◌, ◌||◌, T, eqb, List, length, ℤ, refl, ap, ◌∙◌, arith, le-ltb, lt-ltb, Some, None}
 use lib.IntN.{pred_ℤ, sub_ℕ}
 use lib.Ieee.{Float, nan, inf, fin, le, eq, ne, neg, is_nan, to_signed}
 use Rattle.rounding.proofs.Laws.Order.{T_of, not-T-of, nan_of_differs}
 use Rattle.shape.specs.Double.{0d, 1d, ◌⊟◌, ◌⧄◌}
 use Rattle.shape.specs.Elevation.{
+  Spot,
   row_of,
   column_of,
   row_count,
@@ -30,8 +31,6 @@ use Rattle.shape.specs.Elevation.{
 }
 use Rattle.shape.specs.ElevationSteps.{Placed, Near}
 use Rattle.shape.specs.declared.elevation.ElevationGrid.{ElevationGrid}
-use Rattle.shape.specs.declared.elevation.Spot.{Spot}
-use Rattle.shape.specs.declared.elevation.Spot.TheVariants.{Missing, At}
 use Rattle.shape.specs.declared.elevation.Line.{Line}
 use Rattle.shape.specs.declared.elevation.Place.{Place}
 use Rattle.shape.proofs.Heights.{next_line, after_line, last_line, row_line, no_row, near_row, near_column}
@@ -46,7 +45,7 @@ module _ (z : ℤ → Spot) (j : ℕ) (h : 0 < j) where
       rw (e ∙ ap z (last_line j 2048 h), f, g ∙ ap z (next_line j 2048), i ∙ ap z (after_line j 2048))
 
 abbrev none : Line
-none = record { before = Missing; first = Missing; second = Missing; after = Missing }
+none = record { before = None; first = None; second = None; after = None }
 
 module _ (rows : List ℕ) (left right : List Float) (i : ℕ) (j : ℤ) where
   pub line_held : 2048 ≤ i → 6 * (i - 2048) + 5 < length rows → line_of (column_of left right (row_of rows (i - 2048))) j ≡ line_of (value_of rows left right (sub_ℕ i 2048)) j
@@ -64,24 +63,24 @@ module _ (rows : List ℕ) (left right : List Float) (i : ℕ) (j : ℤ) where
 -- ---- a square, by its corners
 
 module _ (p q r w : Line) (x y : Float) where
-  pub none_1 : q.first ≡ Missing → Missing ≡ square_of p q r w x y
+  pub none_1 : q.first ≡ None → None ≡ square_of p q r w x y
   unfolding square_of with_height
   none_1 e = rw e
 
-  pub none_2 : {a : Float} → q.first ≡ At a → q.second ≡ Missing → Missing ≡ square_of p q r w x y
+  pub none_2 : {a : Float} → q.first ≡ Some a → q.second ≡ None → None ≡ square_of p q r w x y
   unfolding square_of with_height
   none_2 e f = rw (e, f)
 
-  pub none_3 : {a b : Float} → q.first ≡ At a → q.second ≡ At b → r.first ≡ Missing → Missing ≡ square_of p q r w x y
+  pub none_3 : {a b : Float} → q.first ≡ Some a → q.second ≡ Some b → r.first ≡ None → None ≡ square_of p q r w x y
   unfolding square_of with_height
   none_3 e f g = rw (e, f, g)
 
-  pub none_4 : {a b c : Float} → q.first ≡ At a → q.second ≡ At b → r.first ≡ At c → r.second ≡ Missing → Missing ≡ square_of p q r w x y
+  pub none_4 : {a b c : Float} → q.first ≡ Some a → q.second ≡ Some b → r.first ≡ Some c → r.second ≡ None → None ≡ square_of p q r w x y
   unfolding square_of with_height
   none_4 e f g h = rw (e, f, g, h)
 
-  pub whole : {a b c d : Float} → q.first ≡ At a → q.second ≡ At b → r.first ≡ At c → r.second ≡ At d
-      → At (surface_of (coefficients_of (frame_of p q r w a b c d)) x y) ≡ square_of p q r w x y
+  pub whole : {a b c d : Float} → q.first ≡ Some a → q.second ≡ Some b → r.first ≡ Some c → r.second ≡ Some d
+      → Some (surface_of (coefficients_of (frame_of p q r w a b c d)) x y) ≡ square_of p q r w x y
   unfolding square_of with_height
   whole e f g h = rw (e, f, g, h)
 
@@ -100,11 +99,11 @@ module _ (z : ℤ → ℤ → Spot) (i : ℕ) (j : ℤ) (x y : Float) (h : 0 < i
 -- ---- the squares that are tried
 
 module _ (f : ℤ → Float → Spot) (i : ℤ) (part : Float) where
-  pub tried_first : {z : Float} → eq part 0d ≡ true → f i 0d ≡ At z → At z ≡ tried_at f i part
+  pub tried_first : {z : Float} → eq part 0d ≡ true → f i 0d ≡ Some z → Some z ≡ tried_at f i part
   unfolding tried_at or_spot
   tried_first e g = rw (e, g)
 
-  pub tried_second : {r : Spot} → eq part 0d ≡ true → f i 0d ≡ Missing → r ≡ f (pred_ℤ i) 1d → r ≡ tried_at f i part
+  pub tried_second : {r : Spot} → eq part 0d ≡ true → f i 0d ≡ None → r ≡ f (pred_ℤ i) 1d → r ≡ tried_at f i part
   unfolding tried_at or_spot
   tried_second {r} e g k = rw (e, g) k
 
@@ -112,7 +111,7 @@ module _ (f : ℤ → Float → Spot) (i : ℤ) (part : Float) where
   unfolding tried_at
   tried_between e k = rw e k
 
-pub tried_below : (f : ℤ → Float → Spot) (j : ℕ) (part : Float) {r : Spot} → 0 < j → eq part 0d ≡ true → f (sub_ℕ j 2048) 0d ≡ Missing → r ≡ f (sub_ℕ (j - 1) 2048) 1d → r ≡ tried_at f (sub_ℕ j 2048) part
+pub tried_below : (f : ℤ → Float → Spot) (j : ℕ) (part : Float) {r : Spot} → 0 < j → eq part 0d ≡ true → f (sub_ℕ j 2048) 0d ≡ None → r ≡ f (sub_ℕ (j - 1) 2048) 1d → r ≡ tried_at f (sub_ℕ j 2048) part
 tried_below f j part h e g k = tried_second f (sub_ℕ j 2048) part e g (k ∙ ap (λ (l : ℤ). f l 1d) (last_line j 2048 h))
 
 placed_is : (f : ℤ → Float → Spot) (at : Float) (p : Place) → Placed at p → tried_at f (sub_ℕ p.line 2048) p.part ≡ tried f at
@@ -155,15 +154,15 @@ or_true true = refl
 or_true false = refl
 
 module _ (g : ElevationGrid) (rows : List ℕ) (left right : List Float) (s t : Float) where
-  pub spacing_nan : ne g.spacing g.spacing ≡ true → Missing ≡ height_of g rows left right s t
+  pub spacing_nan : ne g.spacing g.spacing ≡ true → None ≡ height_of g rows left right s t
   unfolding height_of
   spacing_nan e = rw (nan_is g.spacing e)
 
-  pub spacing_low : le g.spacing 0d ≡ true → Missing ≡ height_of g rows left right s t
+  pub spacing_low : le g.spacing 0d ≡ true → None ≡ height_of g rows left right s t
   unfolding height_of
   spacing_low e = rw (e, or_true (is_nan g.spacing))
 
-  pub no_rows : eqb (row_count rows) 0 ≡ true → ne g.spacing g.spacing ≡ false → le g.spacing 0d ≡ false → Missing ≡ height_of g rows left right s t
+  pub no_rows : eqb (row_count rows) 0 ≡ true → ne g.spacing g.spacing ≡ false → le g.spacing 0d ≡ false → None ≡ height_of g rows left right s t
   unfolding height_of
   no_rows e a b = rw (num_is g.spacing a, b, e)
 
@@ -185,12 +184,12 @@ pub column_near : (v : Float) (n : ℕ) → n ≤ 1024 → within (neg (count n)
 column_near v n h e = let p = inside (neg (count n)) v (count n) e in near_column v n h p.0 p.1
 
 module _ (rows : List ℕ) (left right : List Float) (u v : Float) where
-  pub off_rows : within 0d u (count (row_count rows - 1)) ≡ false → Missing ≡ coords_of rows left right u v
+  pub off_rows : within 0d u (count (row_count rows - 1)) ≡ false → None ≡ coords_of rows left right u v
   unfolding coords_of
   off_rows e = rw e
 
   module _ (most : ℕ) (w : most ≡ widest_of rows) (e : within 0d u (count (row_count rows - 1)) ≡ true) where
-    pub off_columns : within (neg (count most)) v (count most) ≡ false → Missing ≡ coords_of rows left right u v
+    pub off_columns : within (neg (count most)) v (count most) ≡ false → None ≡ coords_of rows left right u v
     unfolding coords_of
     off_columns f = rw (e, ← w, f)
 

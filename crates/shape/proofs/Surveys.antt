@@ -1,18 +1,20 @@
 -- Laws behind the check of a grid's lists: what a pass over the rows has seen, and what is found of them. Assumes nothing.
-use Rattle.std.proofs.Common.{◌≡◌, ℕ, ◌+◌, ◌-◌, ◌*◌, ◌<◌, ◌≤◌, max, Bool, true, false, cond, not, ◌||◌, ◌⊎◌, List, length, sym, refl, ap, ◌∙◌, inl, inr, add-one, arith, ltb-false}
+use Rattle.std.proofs.Common.{◌≡◌, ℕ, ◌+◌, ◌-◌, ◌*◌, ◌<◌, ◌≤◌, max, Bool, true, false, cond, not, ◌||◌, ◌⊎◌, List, length, sym, refl, ap, ◌∙◌, inl, inr, add-one, arith, ltb-false, Option, Some, None, Result, Ok, Err}
+use Rattle.std.specs.Prelude.{Float}
 use borrow.Author.Tests.{not-true, not-false}
+use Rattle.shape.specs.declared.elevation.GridFault.{GridFault}
+use Rattle.shape.specs.declared.elevation.GridFault.TheVariants.{Long, Ragged}
 use Rattle.shape.specs.Gather.{any}
-use Rattle.shape.specs.Refusal.{fine, refuse, or_else}
+use Rattle.shape.specs.Refusal.{fine}
 use Rattle.shape.specs.Lists.{max_ring, max_rows, longer, uneven, word_of, last_end, run_bad, run_long}
 use Rattle.shape.proofs.Laws.Gather.{any_next, any_some, or_left, or_right}
 use Rattle.shape.proofs.Laws.Refusal.{passed, else_passed}
 use Rattle.shape.specs.Elevation.{row_of, row_count, longest, widest_of, grid_long, grid_ragged, grid_check}
-use Rattle.shape.specs.ElevationSteps.{odd_run, odd_runs, pass_of, fault_of, limits_seen, ragged_seen, widest_seen, Limits}
-use Rattle.shape.specs.JunctionMesh.{Ground, ground_limits, ground_ragged, ground_input}
+use Rattle.shape.specs.ElevationSteps.{odd_run, odd_runs, pass_of, fault_of, Limits}
+use Rattle.shape.specs.JunctionMesh.{Ground, ground_of, ground_limits, ground_ragged, ground_input}
+use Rattle.shape.specs.declared.elevation.ElevationGrid.{ElevationGrid}
+use Rattle.shape.specs.declared.elevation.Heights.{Heights}
 use Rattle.shape.specs.declared.elevation.GridRow.{GridRow}
-use Rattle.shape.specs.declared.elevation.Pass.TheVariants.{Odd, Sound}
-use Rattle.shape.specs.declared.elevation.GridCheck.{GridCheck}
-use Rattle.shape.specs.declared.elevation.GridCheck.TheVariants.{Long, Ragged, Widest}
 use Rattle.shape.proofs.Heights.{widest_few}
 
 -- ---- a pass over the rows
@@ -102,26 +104,26 @@ module _ (rows : List ℕ) (l r : ℕ) where
           right_end = rw (add-one k, h);
         }
 
-  pub seen_all : {most a b : ℕ} → Seen rows l r most a b (row_count rows) → Sound most ≡ pass_of rows l r
+  pub seen_all : {most a b : ℕ} → Seen rows l r most a b (row_count rows) → Some most ≡ pass_of rows l r
   unfolding pass_of odd_runs widest_of
   seen_all s = rw (s.long_left, s.long_right, s.bad_left, s.bad_right, s.most_is)
 
-  pub seen_odd : odd_runs rows l r (row_count rows) ≡ true → Odd ≡ pass_of rows l r
+  pub seen_odd : odd_runs rows l r (row_count rows) ≡ true → None ≡ pass_of rows l r
   unfolding pass_of
   seen_odd e = rw e
 
 -- ---- what is found
 
-pass_odd : (o : Bool) (n : ℕ) → cond o Odd (Sound n) ≡ Odd → o ≡ true
+pass_odd : (o : Bool) (n : ℕ) → cond o None (Some n) ≡ None → o ≡ true
 pass_odd true n e = refl
 pass_odd false n e = absurd (let z : ◌≡◌ {A = ℕ} 0 1 = cc in omega arith)
 
-pass_sound : (o : Bool) (n w : ℕ) → cond o Odd (Sound n) ≡ Sound w → (o ≡ false) × (n ≡ w)
+pass_sound : (o : Bool) (n w : ℕ) → cond o None (Some n) ≡ Some w → (o ≡ false) × (n ≡ w)
 pass_sound true n w e = absurd (let z : ◌≡◌ {A = ℕ} 0 1 = cc in omega arith)
 pass_sound false n w e = (refl, cc)
 
 -- something is long or bad, and if it is not long, it is ragged
-odd_case : (a b c d u : Bool) (n : ℕ) → ((a || b) || (c || d)) ≡ true → cond (a || b) Long Ragged ≡ cond ((false || a) || b) Long (cond ((u || c) || d) Ragged (Widest n))
+odd_case : (a b c d u : Bool) (n : ℕ) → ((a || b) || (c || d)) ≡ true → ◌≡◌ {A = Result ℕ GridFault} (Err (cond (a || b) Long Ragged)) (cond ((false || a) || b) (Err Long) (cond ((u || c) || d) (Err Ragged) (Ok n)))
 odd_case true b c d u n e = refl
 odd_case false true c d u n e = refl
 odd_case false false c d true n e = refl
@@ -130,23 +132,23 @@ odd_case false false false true false n e = refl
 odd_case false false false false false n e = absurd (let z : ◌≡◌ {A = ℕ} 0 1 = cc in omega arith)
 
 module _ (rows : List ℕ) (l r : ℕ) where
-  pub found_long : longer 6 1024 rows ≡ true → Long ≡ grid_check rows l r
+  pub found_long : longer 6 1024 rows ≡ true → (Err Long) ≡ grid_check rows l r
   unfolding grid_check grid_long
   found_long e = rw e
 
-  pub found_odd : longer 6 1024 rows ≡ false → Odd ≡ pass_of rows l r → fault_of rows ≡ grid_check rows l r
+  pub found_odd : longer 6 1024 rows ≡ false → None ≡ pass_of rows l r → Err (fault_of rows) ≡ grid_check rows l r
   unfolding grid_check grid_long grid_ragged fault_of pass_of odd_runs
   found_odd e o =
       rw e
       (odd_case (any (run_long 6 2 rows 1024) (row_count rows)) (any (run_long 6 4 rows 1024) (row_count rows)) (any (run_bad 6 2 rows l) (row_count rows)) (any (run_bad 6 4 rows r) (row_count rows))
       (uneven 6 rows) (widest_of rows) (pass_odd (odd_runs rows l r (row_count rows)) (widest_of rows) (sym o)))
 
-  module _ (w : ℕ) (e : longer 6 1024 rows ≡ false) (o : Sound w ≡ pass_of rows l r) where
+  module _ (w : ℕ) (e : longer 6 1024 rows ≡ false) (o : Some w ≡ pass_of rows l r) where
     sound_runs : (odd_runs rows l r (row_count rows) ≡ false) × (widest_of rows ≡ w)
     unfolding pass_of
     sound_runs = pass_sound (odd_runs rows l r (row_count rows)) (widest_of rows) w (sym o)
 
-    pub found_uneven : uneven 6 rows ≡ true → Ragged ≡ grid_check rows l r
+    pub found_uneven : uneven 6 rows ≡ true → (Err Ragged) ≡ grid_check rows l r
     unfolding grid_check grid_long grid_ragged odd_runs
     found_uneven u =
         let a = any (run_long 6 2 rows 1024) (row_count rows) in
@@ -156,7 +158,7 @@ module _ (rows : List ℕ) (l r : ℕ) where
         let f = or_left (a || b) (c || d) sound_runs.0 in
         rw (e, u, or_left a b f, or_right a b f)
 
-    pub found_widest : uneven 6 rows ≡ false → Widest w ≡ grid_check rows l r
+    pub found_widest : uneven 6 rows ≡ false → Ok w ≡ grid_check rows l r
     unfolding grid_check grid_long grid_ragged odd_runs
     found_widest u =
         let a = any (run_long 6 2 rows 1024) (row_count rows) in
@@ -169,31 +171,31 @@ module _ (rows : List ℕ) (l r : ℕ) where
 
 -- ---- what a finding says
 
-is_long : (a b : Bool) (n : ℕ) → Long ≡ cond a Long (cond b Ragged (Widest n)) → a ≡ true
+is_long : (a b : Bool) (n : ℕ) → (Err Long) ≡ cond a (Err Long) (cond b (Err Ragged) (Ok n)) → a ≡ true
 is_long true b n e = refl
 is_long false true n e = absurd (let z : ◌≡◌ {A = ℕ} 0 1 = cc in omega arith)
 is_long false false n e = absurd (let z : ◌≡◌ {A = ℕ} 0 1 = cc in omega arith)
 
-is_ragged : (a b : Bool) (n : ℕ) → Ragged ≡ cond a Long (cond b Ragged (Widest n)) → (a ≡ false) × (b ≡ true)
+is_ragged : (a b : Bool) (n : ℕ) → (Err Ragged) ≡ cond a (Err Long) (cond b (Err Ragged) (Ok n)) → (a ≡ false) × (b ≡ true)
 is_ragged true b n e = absurd (let z : ◌≡◌ {A = ℕ} 0 1 = cc in omega arith)
 is_ragged false true n e = (refl, refl)
 is_ragged false false n e = absurd (let z : ◌≡◌ {A = ℕ} 0 1 = cc in omega arith)
 
-is_widest : (a b : Bool) (n w : ℕ) → Widest w ≡ cond a Long (cond b Ragged (Widest n)) → ((a ≡ false) × (b ≡ false)) × (w ≡ n)
+is_widest : (a b : Bool) (n w : ℕ) → Ok w ≡ cond a (Err Long) (cond b (Err Ragged) (Ok n)) → ((a ≡ false) × (b ≡ false)) × (w ≡ n)
 is_widest true b n w e = absurd (let z : ◌≡◌ {A = ℕ} 0 1 = cc in omega arith)
 is_widest false true n w e = absurd (let z : ◌≡◌ {A = ℕ} 0 1 = cc in omega arith)
 is_widest false false n w e = ((refl, refl), cc)
 
 module _ (rows : List ℕ) (l r : ℕ) where
-  pub says_long : Long ≡ grid_check rows l r → grid_long rows ≡ true
+  pub says_long : (Err Long) ≡ grid_check rows l r → grid_long rows ≡ true
   unfolding grid_check
   says_long e = is_long (grid_long rows) (grid_ragged rows l r) (widest_of rows) e
 
-  pub says_ragged : Ragged ≡ grid_check rows l r → (grid_long rows ≡ false) × (grid_ragged rows l r ≡ true)
+  pub says_ragged : (Err Ragged) ≡ grid_check rows l r → (grid_long rows ≡ false) × (grid_ragged rows l r ≡ true)
   unfolding grid_check
   says_ragged e = is_ragged (grid_long rows) (grid_ragged rows l r) (widest_of rows) e
 
-  pub says_widest : (w : ℕ) → Widest w ≡ grid_check rows l r → ((grid_long rows ≡ false) × (grid_ragged rows l r ≡ false)) × (w ≡ widest_of rows)
+  pub says_widest : (w : ℕ) → Ok w ≡ grid_check rows l r → ((grid_long rows ≡ false) × (grid_ragged rows l r ≡ false)) × (w ≡ widest_of rows)
   unfolding grid_check
   says_widest w e = is_widest (grid_long rows) (grid_ragged rows l r) (widest_of rows) w e
 
@@ -208,31 +210,18 @@ limits rows most e w =
     let y : widest_of rows ≤ 1024 = widest_few rows (or_right (longer 6 1024 rows) a f) (or_right (longer 6 1024 rows || a) b e) in
     record { few = omega arith; narrow = omega arith; widest = w }
 
--- ---- a junction's input, by what was found of its grid
+-- ---- a junction's input
 
-chain : (a b x y : Bool) (w : ℕ)
-    → or_else (refuse a 1 max_ring (limits_seen (cond x Long (cond y Ragged (Widest w))))) (refuse b 2 0 (ragged_seen 1 (cond x Long (cond y Ragged (Widest w)))))
-    ≡ or_else (refuse a 1 max_ring (refuse x 1 max_rows fine)) (refuse b 2 0 (refuse y 2 1 fine))
-unfolding or_else refuse limits_seen ragged_seen
-chain true b x y w = refl
-chain false b true y w = refl
-chain false true false true w = refl
-chain false true false false w = refl
-chain false false false true w = refl
-chain false false false false w = refl
+-- one with no fault keeps the limits
+pub input_limits : (g : Ground) → ground_input g ≡ fine → Limits g.rows (widest_of g.rows) × (length g.ring ≤ 3 * max_ring)
+unfolding ground_input ground_limits ground_ragged longer
+input_limits g h =
+    let p = else_passed (ground_limits g) (ground_ragged g) h in
+    let ring = passed (longer 3 max_ring g.ring) 1 max_ring _ p.0 in
+    let long = (passed (grid_long g.rows) 1 max_rows fine ring.1).0 in
+    (limits g.rows (widest_of g.rows) long refl, ltb-false (3 * max_ring) (length g.ring) ring.0)
 
-module _ (g : Ground) {k : GridCheck} (e : k ≡ grid_check g.rows (length g.left) (length g.right)) where
-  pub input_seen : or_else (refuse (longer 3 max_ring g.ring) 1 max_ring (limits_seen k)) (refuse (uneven 3 g.ring) 2 0 (ragged_seen 1 k)) ≡ ground_input g
-  unfolding ground_input ground_limits ground_ragged grid_check
-  input_seen = rw e (chain (longer 3 max_ring g.ring) (uneven 3 g.ring) (grid_long g.rows) (grid_ragged g.rows (length g.left) (length g.right)) (widest_of g.rows))
-
-  -- an input with no fault keeps the limits
-  pub input_limits : ground_input g ≡ fine → Limits g.rows (widest_seen k) × (length g.ring ≤ 3 * max_ring)
-  unfolding ground_input ground_limits ground_ragged grid_check widest_seen longer
-  input_limits h =
-      let p = else_passed (ground_limits g) (ground_ragged g) h in
-      let ring = passed (longer 3 max_ring g.ring) 1 max_ring _ p.0 in
-      let long = (passed (grid_long g.rows) 1 max_rows fine ring.1).0 in
-      let ragged = (passed (grid_ragged g.rows (length g.left) (length g.right)) 2 1 fine (passed (uneven 3 g.ring) 2 0 _ p.1).1).0 in
-      let w : widest_seen k ≡ widest_of g.rows = rw (e, long, ragged) in
-      (limits g.rows (widest_seen k) long w, ltb-false (3 * max_ring) (length g.ring) ring.0)
+-- whether there is a grid does not matter to the check of the lists
+pub same_input : (ring : List Float) (g : Option ElevationGrid) (h : Heights) → ground_input (ground_of ring None h) ≡ ground_input (ground_of ring g h)
+unfolding ground_input ground_limits ground_ragged
+same_input ring g h = refl

@@ -1,12 +1,12 @@
 -- What the two scans of the verdict see: numbers that are all finite, a triangle of three indices by its tests, and a short one. Assumes nothing.
-use Rattle.std.proofs.Common.{◌≡◌, ℕ, ◌+◌, ◌*◌, ◌/◌, ◌<◌, ◌≤◌, Bool, true, false, cond, ◌&&◌, leb, List, length, get_or, sym, refl, ◌∙◌, arith, below_more, lt-ltb, eq-eqb, ne_eqb, le-leb}
+use Rattle.std.proofs.Common.{◌≡◌, ℕ, ◌+◌, ◌*◌, ◌/◌, ◌<◌, ◌≤◌, Bool, true, false, cond, ◌&&◌, leb, List, length, get_or, Result, Ok, Err, sym, refl, ◌∙◌, arith, below_more, lt-ltb, eq-eqb, ne_eqb, le-leb}
 use native.Mathlib.Decide.{dec_lt}
 use borrow.Author.Tests.{lt-leb}
 use lib.Ieee.{Float, nan}
 use lib.Ieee.Scale.{finite}
 use Rattle.vector.specs.Coords.{all_finite, point_finite}
-use Rattle.shape.specs.declared.validate.Finding.{Finding}
-use Rattle.shape.specs.declared.validate.Finding.TheVariants.{Fine, Past, Flat}
+use Rattle.shape.specs.declared.validate.Flaw.{Flaw}
+use Rattle.shape.specs.declared.validate.Flaw.TheVariants.{Past, Flat}
 use Rattle.shape.specs.Gather.{any, least}
 use Rattle.shape.specs.Lists.{point_at}
 use Rattle.shape.specs.Strip.{no_area}
@@ -39,7 +39,7 @@ finite_sound vs h i l =
 -- ---- triangles
 
 -- a triangle with fewer than three corners
-short : (x y z : Bool) (a b : ℕ) (f : Finding) → is_faulty (cond x (Past a) (cond y Flat (cond z (Past b) (cond true Flat f)))) ≡ true
+short : (x y z : Bool) (a b : ℕ) (f : Result Unit Flaw) → is_faulty (cond x (Err (Past a)) (cond y (Err Flat) (cond z (Err (Past b)) (cond true (Err Flat) f)))) ≡ true
 unfolding is_faulty
 short true y z a b f = refl
 short false true z a b f = refl
@@ -53,7 +53,7 @@ short_faulty vs is t h =
     let a = get_or is (3 * t) 0 in
     let b = get_or is (3 * t + 1) 0 in
     let c = get_or is (3 * t + 2) 0 in
-    rw (le-leb _ _ h) (short (leb n a) (leb (length is) (3 * t + 1)) (leb n b) a b (cond (leb n c) (Past c) (flat_or vs a b c)))
+    rw (le-leb _ _ h) (short (leb n a) (leb (length is) (3 * t + 1)) (leb n b) a b (cond (leb n c) (Err (Past c)) (flat_or vs a b c)))
 
 -- where nothing is wrong with the triangles of three indices, the first with something wrong is the short one, if there is one
 pub whole_least : (vs : List Float) (is : List ℕ) → any (faulty_at vs is) (length is / 3) ≡ false → length is / 3 ≡ least (faulty_at vs is) (triples_of is)
@@ -67,7 +67,7 @@ whole_least vs is e =
           rw s (least_none f m (λ j l. any_none f j m l e)))
     ]
 
-is_faulty_flat : (x : Bool) → is_faulty (cond x Flat Fine) ≡ x
+is_faulty_flat : (x : Bool) → is_faulty (cond x (Err Flat) (Ok tt)) ≡ x
 unfolding is_faulty
 is_faulty_flat true = refl
 is_faulty_flat false = refl

@@ -5,9 +5,7 @@ use Rattle.vector.specs.Single.{◌⊖◌, ◌⊗◌, 0f}
 use Rattle.vector.specs.declared.coords.Point.{Point}
 use Rattle.shape.specs.Gather.{gather, any, least}
 use Rattle.shape.specs.Lists.{max_ring, point_at, longer, uneven}
-use Rattle.shape.specs.Refusal.{Fault, fine, refuse, Answer, taken, refused, judge, number_of, place_of}
-use Rattle.shape.specs.declared.ears.EarAnswer.{EarAnswer}
-use Rattle.shape.specs.declared.ears.EarAnswer.TheVariants.{Count, Refused}
+use Rattle.shape.specs.Refusal.{Fault, fine, refuse, Answer, taken, judge}
 
 -- ---- in plan
 
@@ -109,8 +107,3 @@ unfoldable pub ears_answer : List Float → ℕ → Answer ℕ
 unfolding ring_fault refuse judge
 ears_answer ring room =
     judge (ring_fault ring) (judge (refuse (nat_lt room (length (ears_of ring))) 3 (length (ears_of ring)) fine) (taken (length (ears_of ring) / 3)))
-
-unfoldable pub read_ears : EarAnswer → Answer ℕ
-unfolding number_of place_of
-read_ears (Count n) = taken n
-read_ears (Refused r) = refused (number_of r) (place_of r)

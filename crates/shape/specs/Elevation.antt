@@ -1,36 +1,35 @@
 -- Document 01, "Height in a junction": the bicubic surface through the points of an elevation grid (ASAM OpenDRIVE 1.8), each sum, product and quotient
 -- rounded once, in the Rust's order. Definitions only. Assumes nothing.
-use Rattle.std.specs.Prelude.{ℕ, zero, suc, ◌+◌, ◌-◌, ◌*◌, ◌/◌, ◌%◌, ◌^◌, max, Bool, cond, ◌&&◌, ◌||◌, List, [], ◌∷◌, length, get_or, take, drop, ℤ, pos, negsuc, ◌==◌, from_bits, is_nan, nat_lt, slice_index_or, Float}
+use Rattle.std.specs.Prelude.{ℕ, zero, suc, ◌+◌, ◌-◌, ◌*◌, ◌/◌, ◌%◌, ◌^◌, max, Bool, cond, ◌&&◌, ◌||◌, List, [], ◌∷◌, length, get_or, take, drop, ℤ, pos, negsuc, ◌==◌, from_bits, is_nan, nat_lt, slice_index_or, Float, Option, Some, None, Result, Ok, Err}
 use Rattle.std.proofs.Math.IntN.{suc_ℤ, pred_ℤ}
 use Rattle.std.specs.Float.{nan, binary64}
 use Rattle.std.specs.Float.Ieee.{neg, lt, le, eq, of_int, to_signed}
 use Rattle.rounding.specs.Whole.{floor_of, round_of}
 use Rattle.rounding.specs.Extremes.{abs_of}
+use Rattle.shape.specs.declared.elevation.GridFault.{GridFault}
+use Rattle.shape.specs.declared.elevation.GridFault.TheVariants.{Long, Ragged}
 use Rattle.shape.specs.Double.{◌⊞◌, ◌⊟◌, ◌⊠◌, ◌⧄◌, double, 0d, 1d, 2d, 3d, 6d, -1d, -2d, -3d}
 use Rattle.shape.specs.Gather.{gather, any}
 use Rattle.shape.specs.Lists.{max_rows, max_side, longer, uneven, word_of, start_of, end_of, run_bad, run_long}
-use Rattle.shape.specs.Refusal.{Fault, fine, refuse, Answer, taken, refused, judge, number_of, place_of}
+use Rattle.shape.specs.Refusal.{Fault, fine, refuse, Answer, taken, judge}
 use Rattle.shape.specs.declared.elevation.ElevationGrid.{ElevationGrid}
-use Rattle.shape.specs.declared.elevation.Elevation.{Elevation}
-use Rattle.shape.specs.declared.elevation.Elevation.TheVariants.{Height, None, Refused}
-use Rattle.shape.specs.declared.elevation.Spot.{Spot}
-use Rattle.shape.specs.declared.elevation.Spot.TheVariants.{Missing, At}
-use Rattle.shape.specs.declared.elevation.GridCheck.{GridCheck}
-use Rattle.shape.specs.declared.elevation.GridCheck.TheVariants.{Long, Ragged, Widest}
+use Rattle.shape.specs.declared.elevation.Heights.{Heights}
 use Rattle.shape.specs.declared.elevation.Run.{Run}
 use Rattle.shape.specs.declared.elevation.GridRow.{GridRow}
 use Rattle.shape.specs.declared.elevation.Line.{Line}
 use Rattle.shape.specs.declared.elevation.Tilt.{Tilt}
-use Rattle.shape.specs.declared.elevation.Across.{Across}
-use Rattle.shape.specs.declared.elevation.Across.TheVariants.{Bare, Both}
 use Rattle.shape.specs.declared.elevation.Patch.{Patch}
 use Rattle.shape.specs.declared.elevation.Station.{Station}
 
 -- ---- the points of the grid
 
+-- a height that may be missing
+abbrev pub Spot : Type 0
+Spot = Option Float
+
 -- height n of a list, from the line outward
 unfoldable pub nth : List Float → ℕ → Spot
-nth xs n = cond (nat_lt n (length xs)) (At (slice_index_or xs n nan)) Missing
+nth xs n = cond (nat_lt n (length xs)) (Some (slice_index_or xs n nan)) None
 
 -- the part of a list that a run is
 abbrev pub part : List Float → Run → List Float
@@ -47,7 +46,7 @@ row_of rows k =
 
 -- "Column 0 is the centre, 1 and up the left list, -1 and down the right list."
 unfoldable pub column_of : List Float → List Float → GridRow → ℤ → Spot
-column_of left right row (pos zero) = At row.center
+column_of left right row (pos zero) = Some row.center
 column_of left right row (pos (suc n)) = nth (part left row.left) n
 column_of left right row (negsuc n) = nth (part right row.right) n
 
@@ -56,8 +55,12 @@ row_count rows = length rows / 6
 
 -- the height at row i and column j
 unfoldable pub value_of : List ℕ → List Float → List Float → ℤ → ℤ → Spot
-value_of rows left right (pos i) j = cond (nat_lt i (row_count rows)) (column_of left right (row_of rows i) j) Missing
-value_of rows left right (negsuc i) j = Missing
+value_of rows left right (pos i) j = cond (nat_lt i (row_count rows)) (column_of left right (row_of rows i) j) None
+value_of rows left right (negsuc i) j = None
+
+-- of the heights that are lent
+abbrev pub heights_of : Heights → ℤ → ℤ → Spot
+heights_of h = value_of h.rows.now h.left.now h.right.now
 
 -- four columns one after another: an edge from column j to the next, and the points before and after it
 unfoldable pub line_of : (ℤ → Spot) → ℤ → Line
@@ -71,29 +74,29 @@ straight_of b c = record { first = c ⊟ b; second = c ⊟ b }
 
 -- the slopes at b and c of four points a grid step apart: of the cubic through all four, or, with an outer neighbour missing, of the line
 unfoldable pub slopes_of : Spot → Float → Float → Spot → Tilt
-slopes_of (At a) b c (At d) =
+slopes_of (Some a) b c (Some d) =
     record { first = (-2d ⊠ a ⊟ 3d ⊠ b ⊞ 6d ⊠ c ⊟ d) ⧄ 6d; second = (a ⊟ 6d ⊠ b ⊞ 3d ⊠ c ⊞ 2d ⊠ d) ⧄ 6d }
-slopes_of (At a) b c Missing = straight_of b c
-slopes_of Missing b c d = straight_of b c
+slopes_of (Some a) b c None = straight_of b c
+slopes_of None b c d = straight_of b c
 
 -- the slopes along an edge that may lack its ends
-unfoldable pub edge_of : Spot → Spot → Spot → Spot → Across
-edge_of a (At b) (At c) d = Both (slopes_of a b c d)
-edge_of a (At b) Missing d = Bare
-edge_of a Missing c d = Bare
+unfoldable pub edge_of : Spot → Spot → Spot → Spot → Option Tilt
+edge_of a (Some b) (Some c) d = Some (slopes_of a b c d)
+edge_of a (Some b) None d = None
+edge_of a None c d = None
 
 -- the slopes across a row, at its two middle points
-abbrev pub across_of : Line → Across
+abbrev pub across_of : Line → Option Tilt
 across_of l = edge_of l.before l.first l.second l.after
 
 -- the slope at the first point of an edge, and at the second
-unfoldable pub first_of : Across → Spot
-first_of Bare = Missing
-first_of (Both t) = At t.first
+unfoldable pub first_of : Option Tilt → Spot
+first_of None = None
+first_of (Some t) = Some t.first
 
-unfoldable pub second_of : Across → Spot
-second_of Bare = Missing
-second_of (Both t) = At t.second
+unfoldable pub second_of : Option Tilt → Spot
+second_of None = None
+second_of (Some t) = Some t.second
 
 -- ---- the patch
 
@@ -160,8 +163,8 @@ surface_of p x y = sum_to (λ (n : ℕ). power_of x (n / 4) ⊠ get_or p.m n nan
 
 -- what follows from a height, if it is there
 unfoldable pub with_height : Spot → (Float → Spot) → Spot
-with_height Missing f = Missing
-with_height (At z) f = f z
+with_height None f = None
+with_height (Some z) f = f z
 
 -- the height at (x, y) in the square with the corners that q and r hold, if all four are there
 unfoldable pub square_of : Line → Line → Line → Line → Float → Float → Spot
@@ -170,7 +173,7 @@ square_of p q r w x y =
     with_height q.second (λ (z01 : Float).
     with_height r.first (λ (z10 : Float).
     with_height r.second (λ (z11 : Float).
-    At (surface_of (coefficients_of (frame_of p q r w z00 z01 z10 z11)) x y)))))
+    Some (surface_of (coefficients_of (frame_of p q r w z00 z01 z10 z11)) x y)))))
 
 -- of the grid z, from row i and column j
 unfoldable pub in_square : (ℤ → ℤ → Spot) → ℤ → Float → ℤ → Float → Spot
@@ -180,10 +183,10 @@ in_square z i x j y = square_of (line_of (z (pred_ℤ i)) j) (line_of (z i) j) (
 
 -- the first that is there
 unfoldable pub or_spot : Spot → Spot → Spot
-or_spot Missing b = b
-or_spot (At z) b = At z
+or_spot None b = b
+or_spot (Some z) b = Some z
 
--- "At a whole number the square above is tried first, then the one below": f i x is the height at x between the lines i and i + 1, and the place is `part` past the line i
+-- "Some a whole number the square above is tried first, then the one below": f i x is the height at x between the lines i and i + 1, and the place is `part` past the line i
 unfoldable pub tried_at : (ℤ → Float → Spot) → ℤ → Float → Spot
 tried_at f i part = cond (eq part 0d) (or_spot (f i 0d) (f (pred_ℤ i) 1d)) (f i part)
 
@@ -224,14 +227,14 @@ count n = of_int binary64 (pos n)
 unfoldable pub coords_of : List ℕ → List Float → List Float → Float → Float → Spot
 coords_of rows left right u v =
     cond (within 0d u (count (row_count rows - 1)))
-    (cond (within (neg (count (widest_of rows))) v (count (widest_of rows))) (on_grid (value_of rows left right) u v) Missing)
-    Missing
+    (cond (within (neg (count (widest_of rows))) v (count (widest_of rows))) (on_grid (value_of rows left right) u v) None)
+    None
 
 -- "Spacing NaN or at most 0, or no rows: none."
 unfoldable pub height_of : ElevationGrid → List ℕ → List Float → List Float → Float → Float → Spot
 height_of g rows left right s t =
-    cond (is_nan g.spacing || le g.spacing 0d) Missing
-    (cond (row_count rows == 0) Missing
+    cond (is_nan g.spacing || le g.spacing 0d) None
+    (cond (row_count rows == 0) None
     (coords_of rows left right (snap_of ((s ⊟ g.start) ⧄ g.spacing)) (snap_of (t ⧄ g.spacing))))
 
 -- the place (x, y) along the reference line, and to its left
@@ -256,14 +259,8 @@ unfoldable pub grid_fault : List ℕ → ℕ → ℕ → Fault
 grid_fault rows l r = refuse (grid_long rows) 1 max_rows (refuse (grid_ragged rows l r) 2 0 fine)
 
 -- the fault, or what the height needs to know of lists without one
-unfoldable pub grid_check : List ℕ → ℕ → ℕ → GridCheck
-grid_check rows l r = cond (grid_long rows) Long (cond (grid_ragged rows l r) Ragged (Widest (widest_of rows)))
-
--- the paper's values of an answer: a height or none, or the refusal's number and place
-unfoldable pub answered : Elevation → Answer Spot
-answered (Height z) = taken (At z)
-answered None = taken Missing
-answered (Refused r) = refused (number_of r) (place_of r)
+unfoldable pub grid_check : List ℕ → ℕ → ℕ → Result ℕ GridFault
+grid_check rows l r = cond (grid_long rows) (Err Long) (cond (grid_ragged rows l r) (Err Ragged) (Ok (widest_of rows)))
 
 -- `height` and `height_at`
 unfoldable pub height_answer : ElevationGrid → List ℕ → List Float → List Float → Float → Float → Answer Spot

@@ -1,19 +1,16 @@
 -- What the steps of the height in a junction give each other: a pass over the rows, a coordinate's place, and the limits that sound lists keep.
 -- Definitions only. Assumes nothing.
-use Rattle.std.specs.Prelude.{◌≡◌, ℕ, ◌-◌, ◌^◌, ◌<◌, ◌≤◌, Bool, cond, ◌||◌, T, List, nat_lt, Float}
+use Rattle.std.specs.Prelude.{◌≡◌, ℕ, ◌-◌, ◌^◌, ◌<◌, ◌≤◌, Bool, cond, ◌||◌, T, List, nat_lt, Float, Option, Some, None}
 use Rattle.std.proofs.Math.IntN.{sub_ℕ}
 use Rattle.std.specs.Float.Ieee.{le, neg, to_signed}
+use Rattle.shape.specs.declared.elevation.GridFault.{GridFault}
+use Rattle.shape.specs.declared.elevation.GridFault.TheVariants.{Long, Ragged}
 use Rattle.shape.specs.Double.{◌⊟◌, double}
 use Rattle.shape.specs.Gather.{any}
 use Rattle.shape.specs.Lists.{max_rows, max_side, run_bad, run_long}
-use Rattle.shape.specs.Refusal.{Fault, fine, fault}
 use Rattle.shape.specs.Elevation.{row_count, widest_of, floored}
 use Rattle.shape.specs.declared.elevation.Run.{Run}
 use Rattle.shape.specs.declared.elevation.Place.{Place}
-use Rattle.shape.specs.declared.elevation.GridCheck.{GridCheck}
-use Rattle.shape.specs.declared.elevation.GridCheck.TheVariants.{Long, Ragged, Widest}
-use Rattle.shape.specs.declared.elevation.Pass.{Pass}
-use Rattle.shape.specs.declared.elevation.Pass.TheVariants.{Odd, Sound}
 
 -- whether a run is ragged, of a list of n, or past its limit
 unfoldable pub odd_run : Run → ℕ → ℕ → Bool
@@ -24,28 +21,12 @@ unfoldable pub odd_runs : List ℕ → ℕ → ℕ → ℕ → Bool
 odd_runs rows l r n =
     (any (run_long 6 2 rows max_side) n || any (run_long 6 4 rows max_side) n) || (any (run_bad 6 2 rows l) n || any (run_bad 6 4 rows r) n)
 
-unfoldable pub pass_of : List ℕ → ℕ → ℕ → Pass
-pass_of rows l r = cond (odd_runs rows l r (row_count rows)) Odd (Sound (widest_of rows))
+unfoldable pub pass_of : List ℕ → ℕ → ℕ → Option ℕ
+pass_of rows l r = cond (odd_runs rows l r (row_count rows)) None (Some (widest_of rows))
 
 -- the fault of rows that are not all in order
-unfoldable pub fault_of : List ℕ → GridCheck
+unfoldable pub fault_of : List ℕ → GridFault
 fault_of rows = cond (any (run_long 6 2 rows max_side) (row_count rows) || any (run_long 6 4 rows max_side) (row_count rows)) Long Ragged
-
--- what is told by what was found of a grid's lists: a limit that is past, ragged rows, which are list p of the call, and the longest side
-unfoldable pub limits_seen : GridCheck → Fault
-limits_seen Long = fault 1 max_rows
-limits_seen Ragged = fine
-limits_seen (Widest most) = fine
-
-unfoldable pub ragged_seen : ℕ → GridCheck → Fault
-ragged_seen p Long = fine
-ragged_seen p Ragged = fault 2 p
-ragged_seen p (Widest most) = fine
-
-unfoldable pub widest_seen : GridCheck → ℕ
-widest_seen Long = 0
-widest_seen Ragged = 0
-widest_seen (Widest most) = most
 
 -- what sound lists keep
 pub record Limits (rows : List ℕ) (most : ℕ) : Type 0 where

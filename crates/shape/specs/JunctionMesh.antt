@@ -1,6 +1,6 @@
 -- Document 01, "Junction triangles": the ears of a boundary split to the grid's spacing, their triangles with vertices and normals, and the call that makes
 -- the mesh. `lift` brings a point to the grid's height where the grid reaches; `step` is the grid's spacing. Definitions only. Assumes nothing.
-use Rattle.std.specs.Prelude.{ℕ, zero, suc, ◌+◌, ◌-◌, ◌*◌, ◌/◌, false, cond, List, [], ◌∷◌, ◌++◌, length, pos, from_bits, nat_lt, slice_index, Float}
+use Rattle.std.specs.Prelude.{ℕ, zero, suc, ◌+◌, ◌-◌, ◌*◌, ◌/◌, false, cond, List, [], ◌∷◌, ◌++◌, length, pos, from_bits, nat_lt, slice_index, Float, Option, Some, None}
 use Rattle.std.specs.Float.{inf, binary32, binary64}
 use Rattle.std.specs.Float.Ieee.{of_int, to_unsigned, neg, lt, div}
 use Rattle.rounding.specs.Extremes.{max_of, clamp_of}
@@ -11,18 +11,14 @@ use Rattle.vector.specs.Coords.{point_sub, point_add, vector_mul, cross_of, dist
 use Rattle.vector.specs.declared.coords.Point.{Point}
 use Rattle.vector.specs.declared.coords.Vector.{Vector}
 use Rattle.shape.specs.declared.memory.Lengths.{Lengths}
+use Rattle.shape.specs.declared.elevation.ElevationGrid.{ElevationGrid}
+use Rattle.shape.specs.declared.elevation.Heights.{Heights}
 use Rattle.shape.specs.declared.junction.Ear.{Ear}
 use Rattle.shape.specs.Gather.{gather}
-use Rattle.shape.specs.declared.junction.JunctionGrid.{JunctionGrid}
-use Rattle.shape.specs.declared.junction.JunctionGrid.TheVariants.{Absent, Present}
-use Rattle.shape.specs.declared.junction.JunctionAnswer.{JunctionAnswer}
-use Rattle.shape.specs.declared.junction.JunctionAnswer.TheVariants.{Made, Refused}
-use Rattle.shape.specs.declared.elevation.Spot.{Spot}
-use Rattle.shape.specs.declared.elevation.Spot.TheVariants.{Missing, At}
-use Rattle.shape.specs.Refusal.{Fault, fine, refuse, or_else, Answer, taken, refused, judge, number_of, place_of}
+use Rattle.shape.specs.Refusal.{Fault, fine, refuse, or_else, Answer, taken, judge}
 use Rattle.shape.specs.Lists.{max_ring, max_rows, point_at, longer, uneven, Mesh}
 use Rattle.shape.specs.MeshMemory.{mesh_room}
-use Rattle.shape.specs.Elevation.{grid_long, grid_ragged, height_of, locate_of}
+use Rattle.shape.specs.Elevation.{Spot, grid_long, grid_ragged, height_of, locate_of}
 use Rattle.shape.specs.Ears.{up_to, ears_of}
 
 -- ---- splitting
@@ -140,30 +136,38 @@ ground_lengths many = record { vertices = 3 * many; normals = 3 * many; indices 
 -- ---- the grid
 
 -- "no grid counts as spacing infinity"
-unfoldable pub spacing_of : JunctionGrid → Float
-spacing_of Absent = inf false
-spacing_of (Present g) = g.spacing
+unfoldable pub spacing_of : Option ElevationGrid → Float
+spacing_of None = inf false
+spacing_of (Some g) = g.spacing
 
 -- a point at a height that may be missing, narrowed
 unfoldable pub raised_to : Point → Spot → Point
-raised_to p Missing = p
-raised_to p (At z) = record { x = p.x; y = p.y; z = narrow_of binary32 z }
+raised_to p None = p
+raised_to p (Some z) = record { x = p.x; y = p.y; z = narrow_of binary32 z }
 
-unfoldable pub lift_of : JunctionGrid → List ℕ → List Float → List Float → Point → Point
-lift_of Absent rows left right p = p
-lift_of (Present g) rows left right p = let at = locate_of g p.x p.y in raised_to p (height_of g rows left right at.s at.t)
+unfoldable pub lift_of : Option ElevationGrid → List ℕ → List Float → List Float → Point → Point
+lift_of None rows left right p = p
+lift_of (Some g) rows left right p = let at = locate_of g p.x p.y in raised_to p (height_of g rows left right at.s at.t)
+
+-- by the heights that are lent
+abbrev pub raise_of : Option ElevationGrid → Heights → Point → Point
+raise_of grid h = lift_of grid h.rows.now h.left.now h.right.now
 
 -- ---- the call: ring 0, rows 1, left 2, right 3
 
 pub record Ground : Type 0 where
   pub ring : List Float
-  pub grid : JunctionGrid
+  pub grid : Option ElevationGrid
   pub rows : List ℕ
   pub left : List Float
   pub right : List Float
 
-abbrev pub ground : List Float → JunctionGrid → List ℕ → List Float → List Float → Ground
+abbrev pub ground : List Float → Option ElevationGrid → List ℕ → List Float → List Float → Ground
 ground p g r a b = record { ring = p; grid = g; rows = r; left = a; right = b }
+
+-- as they are lent
+abbrev pub ground_of : List Float → Option ElevationGrid → Heights → Ground
+ground_of p g h = ground p g h.rows.now h.left.now h.right.now
 
 abbrev pub lifter : Ground → Point → Point
 lifter g = lift_of g.grid g.rows g.left g.right
@@ -199,8 +203,3 @@ ground_result g before = judge (mesh_room (ground_mesh g) before) (taken (length
 
 unfoldable pub ground_answer : Ground → Mesh → Answer ℕ
 ground_answer g before = judge (ground_input g) (ground_result g before)
-
--- the paper's values of each case
-unfoldable pub read_ground : JunctionAnswer → Answer ℕ
-read_ground (Made n) = taken n
-read_ground (Refused r) = refused (number_of r) (place_of r)

@@ -15,4 +15,5 @@ pub mod MeshSteps
 pub mod Verdict
 pub mod Outline
 pub mod OutlineSteps
+pub mod OutlineJoins
 pub mod JunctionMesh

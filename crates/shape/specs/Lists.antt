@@ -7,6 +7,7 @@ use Rattle.vector.specs.Coords.{zero_vector}
 use Rattle.vector.specs.declared.coords.Point.{Point}
 use Rattle.vector.specs.declared.coords.Vector.{Vector}
 use Rattle.shape.specs.Gather.{any}
+use Rattle.shape.specs.declared.lists.Mesh as lent
 use Rattle.shape.specs.Refusal.{Fault, fine, refuse, or_else}
 
 -- ---- "Limits: lane 4,096 points, tangents, widths or banks (in that order), 1,024 lanes; boundary 256 segments, 4,096 points; ring to clip 1,024; grid 1,024
@@ -107,6 +108,10 @@ pub record Mesh : Type 0 where
 
 abbrev pub mesh_lists : List Float → List Float → List ℕ → List ℕ → Mesh
 mesh_lists v n i s = record { vertices = v; normals = n; indices = i; spans = s }
+
+-- the lists that a lent mesh points to
+abbrev pub lists_of : lent.Mesh → Mesh
+lists_of m = mesh_lists m.vertices.now m.normals.now m.indices.now m.spans.now
 
 -- the words of a span, and where its two runs start
 abbrev pub span_words : ℕ

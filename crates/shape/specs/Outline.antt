@@ -1,5 +1,5 @@
 -- Document 01, "Junction outline": boundary segments joined to a ring. Definitions only. Assumes nothing.
-use Rattle.std.specs.Prelude.{◌≡◌, ℕ, zero, suc, ◌+◌, ◌-◌, ◌*◌, ◌/◌, Bool, true, false, cond, ◌&&◌, List, [], ◌∷◌, ◌++◌, length, get_or, take, ◌==◌, nat_lt, slice_index, slice_index_or, Float}
+use Rattle.std.specs.Prelude.{◌≡◌, ℕ, zero, suc, ◌+◌, ◌-◌, ◌*◌, ◌/◌, Bool, true, false, cond, ◌&&◌, List, [], ◌∷◌, ◌++◌, length, get_or, take, ◌==◌, nat_lt, slice_index, slice_index_or, Float, Result}
 use Rattle.std.specs.Float.Ieee.{lt, le}
 use Rattle.rounding.specs.Hypot.{hypot_of}
 use Rattle.rounding.specs.Extremes.{min_of, max_of}
@@ -7,10 +7,9 @@ use Rattle.rounding.specs.Thresholds.{milli, tenth}
 use Rattle.vector.specs.Single.{◌⊕◌, ◌⊖◌, ◌⊗◌, single, 0f}
 use Rattle.vector.specs.declared.coords.Point.{Point}
 use Rattle.shape.specs.declared.junction_areas.Outline.{Outline}
-use Rattle.shape.specs.declared.junction_areas.OutlineAnswer.{OutlineAnswer}
-use Rattle.shape.specs.declared.junction_areas.OutlineAnswer.TheVariants.{Made, Refused}
 use Rattle.shape.specs.Gather.{gather, any}
-use Rattle.shape.specs.Refusal.{Fault, fine, refuse, or_else, Answer, taken, refused, judge, leaves, number_of, place_of}
+use Rattle.shape.specs.declared.refusal.Refusal.{Refusal}
+use Rattle.shape.specs.Refusal.{Fault, fine, refuse, or_else, Answer, taken, judge, leaves, told}
 use Rattle.shape.specs.Lists.{max_segments, max_boundary_points, longer, uneven, point_at, start_of, end_of, run_bad, run_of}
 
 -- ---- distances, in x and y
@@ -240,13 +239,7 @@ unfoldable pub outline_answer : List ℕ → List Float → ℕ → Answer Outli
 unfolding judge outline_fault short_fault outline_of
 outline_answer ws xs room = judge (outline_fault ws xs) (judge (short_fault ws xs room) (taken (outline_of ws xs)))
 
--- the number and place, or the values, of an answer
-unfoldable pub read_outline : OutlineAnswer → Answer Outline
-unfolding number_of place_of
-read_outline (Made o) = taken o
-read_outline (Refused r) = refused (number_of r) (place_of r)
-
 -- the promise of the call: its answer, and what it leaves in the output that held `before`
-pub record Outlines (ws : List ℕ) (xs before after : List Float) (answer : OutlineAnswer) : Type 0 where
-  pub given : read_outline answer ≡ outline_answer ws xs (length before)
+pub record Outlines (ws : List ℕ) (xs before after : List Float) (answer : Result Outline Refusal) : Type 0 where
+  pub given : told answer ≡ outline_answer ws xs (length before)
   pub memory : after ≡ leaves (outline_answer ws xs (length before)) (result_of ws xs) before

@@ -1,5 +1,5 @@
 -- What the steps of joining promise one another (document 01, "Junction outline"). Definitions only. Assumes nothing.
-use Rattle.std.specs.Prelude.{◌≡◌, ℕ, ◌*◌, ◌/◌, ◌≤◌, false, T, List, length, Float}
+use Rattle.std.specs.Prelude.{◌≡◌, ℕ, ◌+◌, ◌*◌, ◌/◌, ◌<◌, ◌≤◌, false, T, List, length, Float}
 use Rattle.std.proofs.lemmas.List.Edits.{sets}
 use Rattle.std.specs.Float.{binary32, binary64}
 use Rattle.std.specs.Float.Ieee.{le, mul}
@@ -10,12 +10,10 @@ use Rattle.rounding.specs.Numbers.{IsNum}
 use Rattle.rounding.specs.Numbers.{nought}
 use Rattle.vector.specs.Single.{◌⊖◌, single}
 use Rattle.vector.specs.declared.coords.Point.{Point}
-use Rattle.shape.specs.declared.junction_areas.Gap.{Gap}
 use Rattle.shape.specs.declared.junction_areas.RingSoFar.{RingSoFar}
-use Rattle.shape.specs.declared.junction_areas.Joined.{Joined}
 use Rattle.shape.specs.Gather.{any}
-use Rattle.shape.specs.Lists.{max_segments, max_boundary_points, run_bad}
-use Rattle.shape.specs.Outline.{last_of, flat, solid, joined}
+use Rattle.shape.specs.Lists.{max_segments, max_boundary_points, last_end, run_bad}
+use Rattle.shape.specs.Outline.{last_of, flat, solid, solids, segment_at}
 
 -- the sum of squares between two places, and the root that makes a distance of it
 unfoldable pub squares_between : Point → Point → Float
@@ -37,25 +35,26 @@ Wide x = T (le (mul binary64 wide wide) (mul binary64 x x))
 unfoldable pub Squares : Float → Type 0
 Squares s = IsNum s → T (le nought s)
 
--- a gap is not below the root of the squares beside it
-pub record GapCovers (gap : Gap) : Type 0 where
-  pub least : T (le nought gap.squares)
-  pub under : T (le (rooted_of gap.squares) gap.root)
-
 -- lists that are not turned back
 pub record SoundLists (ws : List ℕ) (xs : List Float) : Type 0 where
   pub few : length ws ≤ 2 * max_segments
   pub small : length xs ≤ 3 * max_boundary_points
   pub runs : any (run_bad 2 0 ws (length xs / 3)) (length ws / 2) ≡ false
 
+-- segment k is empty, and passed over
+pub record Skips (ws : List ℕ) (k : ℕ) : Type 0 where
+  pub next : length (solid ws (k + 1)) ≡ length (solid ws k)
+  pub after : last_end 2 0 ws k ≤ last_end 2 0 ws (k + 1)
+
+-- segment k is s, and not empty
+pub record Adds (ws : List ℕ) (xs : List Float) (k : ℕ) (s : List Float) : Type 0 where
+  pub next : length (solid ws (k + 1)) ≡ length (solid ws k) + 1
+  pub here : s ≡ segment_at ws xs (length (solid ws k))
+  pub below : length (solid ws k) < solids ws
+  pub after : 3 * last_end 2 0 ws k + length s ≤ 3 * last_end 2 0 ws (k + 1)
+
 -- the memory, blank before, has the ring's coordinates at its front, and h tells of the ring
 pub record Holds (blank memory : List Float) (ring : List Point) (h : RingSoFar) : Type 0 where
   pub many : h.count ≡ length ring
   pub end : h.last ≡ last_of ring
   pub front : memory ≡ sets blank 0 (flat ring)
-
--- the ring of the first k segments, the empty ones among them passed over
-pub record Joins (ws : List ℕ) (xs blank memory : List Float) (k : ℕ) (j : Joined) : Type 0 where
-  pub holds : Holds blank memory (joined ws xs (length (solid ws k))).ring j.ring
-  pub solids : j.segments ≡ length (solid ws k)
-  pub gap : j.gap.root ≡ (joined ws xs (length (solid ws k))).gap

@@ -1,10 +1,8 @@
 -- Document 01, "When a call is turned back": the numbers and places of the refusals, and what an answer leaves in lent memory.
 -- Definitions only. Assumes nothing.
-use Rattle.std.specs.Prelude.{ℕ, Bool, cond, List, ◌++◌, length, drop}
+use Rattle.std.specs.Prelude.{ℕ, Bool, cond, List, ◌++◌, length, drop, Result, Ok, Err}
 use Rattle.shape.specs.declared.refusal.Refusal.{Refusal}
 use Rattle.shape.specs.declared.refusal.Refusal.TheVariants.{Oversize, Ragged, ShortOutput, ForeignIndex, BadRecord}
-use Rattle.shape.specs.declared.refusal.Check.{Check}
-use Rattle.shape.specs.declared.refusal.Check.TheVariants.{Fine, Faulty}
 
 -- the table's number and place of each case
 unfoldable pub number_of : Refusal → ℕ
@@ -26,10 +24,11 @@ pub data Fault : Type 0 where
   fine : Fault
   fault : ℕ → ℕ → Fault
 
-unfoldable pub found : Check → Fault
+-- what a check finds
+unfoldable pub found : Result Unit Refusal → Fault
 unfolding number_of place_of
-found Fine = fine
-found (Faulty r) = fault (number_of r) (place_of r)
+found (Ok passed) = fine
+found (Err r) = fault (number_of r) (place_of r)
 
 -- a fault where the test holds, else what comes after
 unfoldable pub refuse : Bool → ℕ → ℕ → Fault → Fault
@@ -44,6 +43,12 @@ or_else (fault number place) after = fault number place
 pub data Answer (A : Type 0) : Type 0 where
   taken : A → Answer A
   refused : ℕ → ℕ → Answer A
+
+-- what a call answers, with the table's number and place where it is refused
+unfoldable pub told : {A : Type 0} → Result A Refusal → Answer A
+unfolding number_of place_of
+told (Ok a) = taken a
+told (Err r) = refused (number_of r) (place_of r)
 
 -- the answer that a check lets through
 unfoldable pub judge : {A : Type 0} → Fault → Answer A → Answer A

@@ -27,6 +27,7 @@ use Rattle.vector.specs.Coords.{
 use Rattle.vector.specs.Geometry.{horizontal_of, left_normal_of}
 use Rattle.vector.specs.declared.coords.Point.{Point}
 use Rattle.vector.specs.declared.coords.Vector.{Vector}
+use Rattle.shape.specs.declared.rib.Lane as lent
 use Rattle.shape.specs.declared.rib.Rib.{Rib}
 use Rattle.shape.specs.declared.rib.Leg.{Leg}
 use Rattle.shape.specs.declared.rib.Spread.{Spread}
@@ -42,8 +43,12 @@ pub record Lane : Type 0 where
   pub banks : List Float
   pub width : Float
 
-abbrev pub lane_of : List Float → List Float → List Float → List Float → Float → Lane
-lane_of ps ts ws bs w = record { points = ps; tangents = ts; widths = ws; banks = bs; width = w }
+abbrev pub lane_lists : List Float → List Float → List Float → List Float → Float → Lane
+lane_lists ps ts ws bs w = record { points = ps; tangents = ts; widths = ws; banks = bs; width = w }
+
+-- what a lent lane points to
+abbrev pub lane_of : lent.Lane → Lane
+lane_of l = lane_lists l.points.now l.tangents.now l.widths.now l.banks.now l.width
 
 -- ---- which points are kept
 

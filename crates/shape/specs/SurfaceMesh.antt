@@ -3,14 +3,13 @@
 use Rattle.std.specs.Prelude.{ℕ, zero, suc, ◌+◌, ◌/◌, List, [], ◌∷◌, length, Float}
 use Rattle.vector.specs.Single.{single}
 use Rattle.shape.specs.declared.memory.Lengths.{Lengths}
+use Rattle.shape.specs.declared.mesh.Lanes as lent
 use Rattle.shape.specs.declared.mesh.MeshCounts.{MeshCounts}
-use Rattle.shape.specs.declared.mesh.MeshAnswer.{MeshAnswer}
-use Rattle.shape.specs.declared.mesh.MeshAnswer.TheVariants.{Made, Refused}
 use Rattle.shape.specs.Gather.{gather, any}
-use Rattle.shape.specs.Refusal.{Fault, fine, refuse, or_else, number_of, place_of, Answer, taken, refused, judge}
+use Rattle.shape.specs.Refusal.{Fault, fine, refuse, or_else, Answer, taken, judge}
 use Rattle.shape.specs.Lists.{max_lane_points, max_lanes, span_words, longer, uneven, word_of, start_of, end_of, run_bad, run_long, run_of, Mesh}
 use Rattle.shape.specs.MeshMemory.{lengths_of, room_fault}
-use Rattle.shape.specs.Strip.{Lane, lane_of, kept, vertices_of, normals_of, indices_of}
+use Rattle.shape.specs.Strip.{Lane, lane_lists, kept, vertices_of, normals_of, indices_of}
 
 -- ---- the lanes
 
@@ -25,6 +24,10 @@ pub record Given : Type 0 where
 
 abbrev pub given : List Float → List Float → List Float → List Float → List ℕ → Given
 given ps ts ws bs ls = record { points = ps; tangents = ts; widths = ws; banks = bs; lanes = ls }
+
+-- what lent lanes point to
+abbrev pub given_of : lent.Lanes → Given
+given_of l = given l.points.now l.tangents.now l.widths.now l.banks.now l.records.now
 
 -- how many words that is, the words of the id and of the default width, and where the four runs start
 abbrev pub lane_words : ℕ
@@ -57,7 +60,7 @@ lane_run u xs ls a k = run_of u xs (start_of lane_words a ls k) (end_of lane_wor
 
 unfoldable pub lane_at : Given → ℕ → Lane
 lane_at g k =
-    lane_of (lane_run 3 g.points g.lanes points_word k) (lane_run 3 g.tangents g.lanes tangents_word k)
+    lane_lists (lane_run 3 g.points g.lanes points_word k) (lane_run 3 g.tangents g.lanes tangents_word k)
     (lane_run 1 g.widths g.lanes widths_word k) (lane_run 2 g.banks g.lanes banks_word k) (single (word_of lane_words g.lanes k width_word))
 
 -- ---- the refusals of the input
@@ -132,11 +135,6 @@ mesh_of g =
 -- what is counted: vertices and normals in threes of coordinates, indices one by one, spans in fives of words
 unfoldable pub counts_of : Lengths → MeshCounts
 counts_of made = record { vertices = made.vertices / 3; normals = made.normals / 3; indices = made.indices; spans = made.spans / span_words }
-
--- the paper's values of each case
-unfoldable pub read_mesh : MeshAnswer → Answer MeshCounts
-read_mesh (Made counts) = taken counts
-read_mesh (Refused r) = refused (number_of r) (place_of r)
 
 -- the refusals of the whole call, for lent lists of such lengths
 unfoldable pub call_fault : Given → Lengths → Fault

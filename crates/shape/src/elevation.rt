@@ -2,17 +2,15 @@
 // along (rows) and across (columns) the junction's reference line. Column 0 is the centre, 1 and up the
 // left heights, -1 and down the right heights. A number of a line that may be below 0 is held with
 // 2,048 added, so that it is a count.
-ghost use Rattle.std.specs.Prelude.{◌≡◌, ◌+◌, ◌-◌, ◌*◌, ◌^◌, ◌<◌, ◌≤◌, max, not, length, ℤ, Float};
+ghost use Rattle.std.specs.Prelude.{◌≡◌, ◌+◌, ◌-◌, ◌*◌, ◌^◌, ◌<◌, not, length, ℤ, Float, Ok, Err, MatchResult};
 ghost use Rattle.std.proofs.Math.IntN.{sub_ℕ};
-ghost use Rattle.shape.specs.Refusal.{found};
-ghost use Rattle.shape.specs.Lists.{max_rows};
+ghost use Rattle.shape.specs.Refusal.{told};
 ghost use Rattle.shape.specs.Elevation.{
   nth,
   part,
   row_of,
   column_of,
-  row_count,
-  value_of,
+  heights_of,
   line_of,
   straight_of,
   slopes_of,
@@ -31,18 +29,17 @@ ghost use Rattle.shape.specs.Elevation.{
   height_of,
   locate_of,
   grid_check,
-  answered,
   height_answer,
   height_at_answer,
 };
-ghost use Rattle.shape.specs.ElevationSteps.{odd_run, pass_of, fault_of, limits_seen, ragged_seen, widest_seen, Placed, Near, Limits};
+ghost use Rattle.shape.specs.ElevationSteps.{odd_run, pass_of, fault_of, Placed, Near, Limits};
 
-use crate::lists::{MAX_ROWS, MAX_SIDE, any_long};
-use crate::refusal::{Check, Refusal};
-use rounding::bits::{from_bits64, wide};
-use rounding::count::count64;
-use rounding::extremes::abs64;
-use rounding::whole::{floor64, round64};
+use crate::lists::{MAX_ROWS, MAX_SIDE, Records};
+use crate::refusal::Refusal;
+use rounding::bits::from_bits64;
+use rounding::count::count;
+use rounding::extremes::abs;
+use rounding::whole::{floor, round};
 
 // Where the grid lies: the reference line's start and heading, where along it the first row is, and how
 // far apart the points are.
@@ -56,19 +53,21 @@ pub struct ElevationGrid {
     pub spacing: f64,
 }
 
-// The answer to a question for a height.
+// The lists of a grid as they are lent: the records of its rows, and the heights to the left and to the right
+// of the reference line, row after row.
 #[derive(Clone, Copy)]
-pub enum Elevation {
-    Height(f64),
-    None,
-    Refused(Refusal),
+pub struct Heights<'a> {
+    pub rows: &'a [u32],
+    pub left: &'a [f64],
+    pub right: &'a [f64],
 }
 
-// A height that may be missing.
+// The lists of a grid that are not faulty, and how many heights their longest side has.
 #[derive(Clone, Copy)]
-pub enum Spot {
-    Missing,
-    At(f64),
+pub(crate) struct Survey<'a> {
+    pub heights: Heights<'a>,
+    pub most: usize,
+    ghost limits: { Limits heights.rows.now most },
 }
 
 // The part of a list from start to end.
@@ -89,10 +88,10 @@ pub struct GridRow {
 // Four points of a row one after another, the middle two at a square's edge.
 #[derive(Clone, Copy)]
 pub struct Line {
-    pub before: Spot,
-    pub first: Spot,
-    pub second: Spot,
-    pub after: Spot,
+    pub before: Option<f64>,
+    pub first: Option<f64>,
+    pub second: Option<f64>,
+    pub after: Option<f64>,
 }
 
 // The slopes at the two ends of an edge.
@@ -100,13 +99,6 @@ pub struct Line {
 pub struct Tilt {
     pub first: f64,
     pub second: f64,
-}
-
-// The slopes across a row that may lack the edge's ends.
-#[derive(Clone, Copy)]
-pub enum Across {
-    Bare,
-    Both(Tilt),
 }
 
 // Sixteen numbers of a square, in rows of four: its corners, slopes and twists, or the coefficients of
@@ -133,91 +125,94 @@ pub struct Station {
 // ---- the points of the grid
 
 // Height n of a run, from the line outward.
-fn side(xs: &[f64], run: Run, n: usize) -> Spot
+#[tactic(auto, using(crate::proofs::Heights::held, crate::proofs::Heights::short_run, crate::proofs::Heights::short_list))]
+fn side(xs: &[f64], run: Run, n: usize) -> Option<f64>
     requires { (run.start < 2 ^ 32) × (n < 2 ^ 32) }
     ensures { result ≡ nth (part xs.now run) n }
 {
     let k = run.start + n;
-    if k < run.end {
-        if k < xs.len() {
-            return Spot::At(xs[k]);
-        }
+    if k < run.end && k < xs.len() {
+        Some(xs[k])
+    } else {
+        None
     }
-    Spot::Missing
 }
 
 impl GridRow {
     // The height in column j - 2048, if the row has one there.
-    fn at(self, left: &[f64], right: &[f64], j: usize) -> Spot
+    #[tactic(auto, using(crate::proofs::Heights::left_line, crate::proofs::Heights::right_line), unfolding(crate::specs::Elevation::column_of))]
+    fn at(self, heights: Heights, j: usize) -> Option<f64>
         requires { (self.left.start < 2 ^ 32) × (self.right.start < 2 ^ 32) × (j < 2 ^ 32) }
-        ensures { result ≡ column_of left.now right.now self (sub_ℕ j 2048) }
+        ensures { result ≡ column_of heights.entry.left.now heights.entry.right.now self (sub_ℕ j 2048) }
     {
         if j == 2048 {
-            return Spot::At(self.center);
+            return Some(self.center);
         }
         if 2048 < j {
-            let run = self.left;
-            return side(left, run, j - 2049);
+            return side(heights.left, self.left, j - 2049);
         }
-        let run = self.right;
-        side(right, run, 2047 - j)
+        side(heights.right, self.right, 2047 - j)
     }
 
     // The heights in columns j - 2049 to j - 2046.
-    fn line(self, left: &[f64], right: &[f64], j: usize) -> Line
+    #[tactic(auto, using(crate::proofs::Squares::line_is))]
+    fn line(self, heights: Heights, j: usize) -> Line
         requires { (self.left.start < 2 ^ 32) × (self.right.start < 2 ^ 32) × (0 < j) × (j < 2 ^ 31) }
-        ensures { result ≡ line_of (column_of left.now right.now self) (sub_ℕ j 2048) }
+        ensures { result ≡ line_of (column_of heights.entry.left.now heights.entry.right.now self) (sub_ℕ j 2048) }
     {
         Line {
-            before: self.at(left, right, j - 1),
-            first: self.at(left, right, j),
-            second: self.at(left, right, j + 1),
-            after: self.at(left, right, j + 2),
+            before: self.at(heights, j - 1),
+            first: self.at(heights, j),
+            second: self.at(heights, j + 1),
+            after: self.at(heights, j + 2),
         }
     }
 }
 
-// Row i of the grid, which has it.
-fn row(rows: &[u32], i: usize) -> GridRow
-    requires { 6 * i + 5 < length rows.now }
-    ensures { (result ≡ row_of rows.now i) × (result.left.start < 2 ^ 32) × (result.right.start < 2 ^ 32) }
-{
-    let at = 6 * i;
-    GridRow {
-        center: from_bits64(rows[at], rows[at + 1]),
-        left: Run {
-            start: wide(rows[at + 2]),
-            end: wide(rows[at + 3]),
-        },
-        right: Run {
-            start: wide(rows[at + 4]),
-            end: wide(rows[at + 5]),
-        },
-    }
-}
-
-// The heights of row i - 2048 in columns j - 2049 to j - 2046.
-fn line_at(rows: &[u32], left: &[f64], right: &[f64], i: usize, j: usize) -> Line
-    requires { (0 < j) × (i < 2 ^ 31) × (j < 2 ^ 31) }
-    ensures { result ≡ line_of (value_of rows.now left.now right.now (sub_ℕ i 2048)) (sub_ℕ j 2048) }
-{
-    if 2048 <= i {
-        let k = i - 2048;
-        if 6 * k + 5 < rows.len() {
-            return row(rows, k).line(left, right, j);
+impl Heights<'_> {
+    // Row i of the grid, which has it.
+    #[tactic(auto, unfolding(crate::specs::Elevation::row_of, crate::specs::Lists::word_of))]
+    fn row(self, i: usize) -> GridRow
+        requires { 6 * i + 5 < length self.rows.now }
+        ensures { (result ≡ row_of self.entry.rows.now i) × (result.left.start < 2 ^ 32) × (result.right.start < 2 ^ 32) }
+    {
+        let rows = self.rows;
+        let at = 6 * i;
+        GridRow {
+            center: from_bits64(rows[at], rows[at + 1]),
+            left: Run {
+                start: rows[at + 2] as usize,
+                end: rows[at + 3] as usize,
+            },
+            right: Run {
+                start: rows[at + 4] as usize,
+                end: rows[at + 5] as usize,
+            },
         }
     }
-    Line {
-        before: Spot::Missing,
-        first: Spot::Missing,
-        second: Spot::Missing,
-        after: Spot::Missing,
+
+    // The heights of row i - 2048 in columns j - 2049 to j - 2046.
+    #[tactic(auto, using(crate::proofs::Squares::line_held, crate::proofs::Squares::line_past, crate::proofs::Squares::line_below))]
+    fn line_at(self, i: usize, j: usize) -> Line
+        requires { (0 < j) × (i < 2 ^ 31) × (j < 2 ^ 31) }
+        ensures { result ≡ line_of (heights_of self.entry (sub_ℕ i 2048)) (sub_ℕ j 2048) }
+    {
+        if 2048 <= i && 6 * (i - 2048) + 5 < self.rows.len() {
+            return self.row(i - 2048).line(self, j);
+        }
+        Line {
+            before: None,
+            first: None,
+            second: None,
+            after: None,
+        }
     }
 }
 
 // ---- a square's corners, slopes and twists
 
 // The slopes of the line through b and c, a grid step apart.
+#[tactic(auto, unfolding(crate::specs::Elevation::straight_of))]
 fn straight(b: f64, c: f64) -> Tilt
     ensures { result ≡ straight_of b c }
 {
@@ -229,13 +224,11 @@ fn straight(b: f64, c: f64) -> Tilt
 
 // The slopes at b and c of four points a grid step apart: from the cubic through all four, or from the
 // line through b and c where a or d is missing.
-pub fn slopes(a: Spot, b: f64, c: f64, d: Spot) -> Tilt
+#[tactic(auto, unfolding(crate::specs::Elevation::slopes_of))]
+pub fn slopes(a: Option<f64>, b: f64, c: f64, d: Option<f64>) -> Tilt
     ensures { result ≡ slopes_of a b c d }
 {
-    let Spot::At(p) = a else {
-        return straight(b, c);
-    };
-    let Spot::At(q) = d else {
+    let (Some(p), Some(q)) = (a, d) else {
         return straight(b, c);
     };
     Tilt {
@@ -245,40 +238,29 @@ pub fn slopes(a: Spot, b: f64, c: f64, d: Spot) -> Tilt
 }
 
 // The slopes across a row at its middle points, if it has them.
-pub fn row_slopes(line: Line) -> Across
+#[tactic(auto, unfolding(crate::specs::Elevation::edge_of))]
+pub fn row_slopes(line: Line) -> Option<Tilt>
     ensures { result ≡ across_of line }
 {
-    let before = line.before;
-    let first = line.first;
-    let second = line.second;
-    let after = line.after;
-    let Spot::At(b) = first else {
-        return Across::Bare;
-    };
-    let Spot::At(c) = second else {
-        return Across::Bare;
-    };
-    Across::Both(slopes(before, b, c, after))
+    let b = line.first?;
+    let c = line.second?;
+    Some(slopes(line.before, b, c, line.after))
 }
 
 // The slope at the edge's first point.
-fn first_of(x: Across) -> Spot
+#[tactic(auto, unfolding(crate::specs::Elevation::first_of))]
+fn first_of(x: Option<Tilt>) -> Option<f64>
     ensures { result ≡ first_of x }
 {
-    let Across::Both(t) = x else {
-        return Spot::Missing;
-    };
-    Spot::At(t.first)
+    Some(x?.first)
 }
 
 // The slope at the edge's second point.
-fn second_of(x: Across) -> Spot
+#[tactic(auto, unfolding(crate::specs::Elevation::second_of))]
+fn second_of(x: Option<Tilt>) -> Option<f64>
     ensures { result ≡ second_of x }
 {
-    let Across::Both(t) = x else {
-        return Spot::Missing;
-    };
-    Spot::At(t.second)
+    Some(x?.second)
 }
 
 // ---- the surface over a square
@@ -294,6 +276,7 @@ const A_TRANSPOSED: [f64; 16] = [
 ];
 
 // Entry (r, c) of the product of a and b.
+#[tactic(auto, unfolding(crate::specs::Elevation::entry_of))]
 fn entry(a: Patch, b: Patch, r: usize, c: usize) -> f64
     requires { (r < 4) × (c < 4) }
     ensures { result ≡ entry_of a.m b.m r c }
@@ -305,6 +288,7 @@ fn entry(a: Patch, b: Patch, r: usize, c: usize) -> f64
 }
 
 // The product of two matrices.
+#[tactic(auto, unfolding(crate::specs::Elevation::mul_of, crate::specs::Gather::gather))]
 pub fn mul(a: Patch, b: Patch) -> Patch
     ensures { result ≡ mul_of a b }
 {
@@ -340,6 +324,7 @@ pub fn coefficients(f: Patch) -> Patch
 }
 
 // The height of the surface at (x, y): the sum of its terms, row by row.
+#[tactic(auto, unfolding(crate::specs::Elevation::surface_of, crate::specs::Elevation::sum_to, crate::specs::Elevation::power_of))]
 pub fn terms(p: Patch, x: f64, y: f64) -> f64
     ensures { result ≡ surface_of p x y }
 {
@@ -367,21 +352,14 @@ pub fn terms(p: Patch, x: f64, y: f64) -> f64
 }
 
 // The corners, slopes and twists of the square whose corners q and r hold, between the rows p and w.
+#[tactic(auto, unfolding(crate::specs::Elevation::frame_of))]
 fn frame(p: Line, q: Line, r: Line, w: Line, z00: f64, z01: f64, z10: f64, z11: f64) -> Patch
     ensures { result ≡ frame_of p q r w z00 z01 z10 z11 }
 {
-    let q0 = q.before;
-    let q3 = q.after;
-    let r0 = r.before;
-    let r3 = r.after;
-    let p1 = p.first;
-    let p2 = p.second;
-    let w1 = w.first;
-    let w2 = w.second;
-    let t0 = slopes(q0, z00, z01, q3);
-    let t1 = slopes(r0, z10, z11, r3);
-    let s0 = slopes(p1, z00, z10, w1);
-    let s1 = slopes(p2, z01, z11, w2);
+    let t0 = slopes(q.before, z00, z01, q.after);
+    let t1 = slopes(r.before, z10, z11, r.after);
+    let s0 = slopes(p.first, z00, z10, w.first);
+    let s1 = slopes(p.second, z01, z11, w.second);
     let tp = row_slopes(p);
     let tw = row_slopes(w);
     let st0 = slopes(first_of(tp), t0.first, t1.first, first_of(tw));
@@ -394,316 +372,215 @@ fn frame(p: Line, q: Line, r: Line, w: Line, z00: f64, z01: f64, z10: f64, z11: 
     }
 }
 
-// The height at (x, y) within the square from row i - 2048 and column j - 2048, if the grid has its
-// corners.
-fn in_square(rows: &[u32], left: &[f64], right: &[f64], i: usize, x: f64, j: usize, y: f64) -> Spot
-    requires { (0 < i) × (0 < j) × (i < 2 ^ 30) × (j < 2 ^ 30) }
-    ensures { result ≡ in_square (value_of rows.now left.now right.now) (sub_ℕ i 2048) x (sub_ℕ j 2048) y }
-{
-    let q = line_at(rows, left, right, i, j);
-    let r = line_at(rows, left, right, i + 1, j);
-    let a = q.first;
-    let b = q.second;
-    let c = r.first;
-    let d = r.second;
-    let Spot::At(z00) = a else {
-        return Spot::Missing;
-    };
-    let Spot::At(z01) = b else {
-        return Spot::Missing;
-    };
-    let Spot::At(z10) = c else {
-        return Spot::Missing;
-    };
-    let Spot::At(z11) = d else {
-        return Spot::Missing;
-    };
-    let p = line_at(rows, left, right, i - 1, j);
-    let w = line_at(rows, left, right, i + 2, j);
-    let f = frame(p, q, r, w, z00, z01, z10, z11);
-    Spot::At(terms(coefficients(f), x, y))
-}
-
 // ---- the squares at a place
 
 // A number less than 1e-6 from a whole one snaps to it.
+#[tactic(auto, unfolding(crate::specs::Elevation::snap_of))]
 fn snap(at: f64) -> f64
     ensures { result ≡ snap_of at }
 {
-    let near = round64(at);
-    if abs64(at - near) < 1e-6 { near } else { at }
+    let near = round(at);
+    if abs(at - near) < 1e-6 { near } else { at }
 }
 
 // Where a grid coordinate falls: the line at or below it, and how far past that.
+#[tactic(auto, using(crate::proofs::Heights::line_of, crate::proofs::Heights::above_few, crate::proofs::Heights::below_few))]
 fn place_of(at: f64) -> Place
     requires { Near at }
     ensures { Placed at result }
 {
-    let line = floor64(at);
-    let above = count64(line);
-    let below = count64(-line);
+    let line = floor(at);
+    let above = count(line);
+    let below = count(-line);
     Place {
         line: (2048 + above - below) as usize,
         part: at - line,
     }
 }
 
-// The height at x past row i - 2048 and at a column's place: on a grid line in the square above it, else
-// in the one below.
-fn in_row(rows: &[u32], left: &[f64], right: &[f64], i: usize, x: f64, column: Place) -> Spot
-    requires { (0 < i) × (i < 2 ^ 30) × (1 < column.line) × (column.line < 2 ^ 30) }
-    ensures { let z = value_of rows.now left.now right.now in
-        result ≡ tried_at (λ (j : ℤ) (y : Float). in_square z (sub_ℕ i 2048) x j y) (sub_ℕ column.line 2048) column.part }
-{
-    if column.part == 0.0 {
-        let above = in_square(rows, left, right, i, x, column.line, 0.0);
-        if let Spot::At(z) = above {
-            return Spot::At(z);
-        }
-        return in_square(rows, left, right, i, x, column.line - 1, 1.0);
+impl Heights<'_> {
+    // The height at (x, y) within the square from row i - 2048 and column j - 2048, if the grid has its
+    // corners.
+    fn in_square(self, i: usize, x: f64, j: usize, y: f64) -> Option<f64>
+        requires { (0 < i) × (0 < j) × (i < 2 ^ 30) × (j < 2 ^ 30) }
+        ensures { result ≡ in_square (heights_of self.entry) (sub_ℕ i 2048) x (sub_ℕ j 2048) y }
+    {
+        let q = self.line_at(i, j);
+        let r = self.line_at(i + 1, j);
+        let z00 = q.first?;
+        let z01 = q.second?;
+        let z10 = r.first?;
+        let z11 = r.second?;
+        let p = self.line_at(i - 1, j);
+        let w = self.line_at(i + 2, j);
+        let f = frame(p, q, r, w, z00, z01, z10, z11);
+        Some(terms(coefficients(f), x, y))
     }
-    in_square(rows, left, right, i, x, column.line, column.part)
-}
 
-// The height at a row's place and a column's: on a grid line in the squares above it, else in those
-// below.
-fn on_grid(rows: &[u32], left: &[f64], right: &[f64], row: Place, column: Place) -> Spot
-    requires { (1 < row.line) × (row.line < 2 ^ 30) × (1 < column.line) × (column.line < 2 ^ 30) }
-    ensures { let z = value_of rows.now left.now right.now in
-        let column_at = sub_ℕ column.line 2048 in
-        result ≡ tried_at (λ (i : ℤ) (x : Float). tried_at (λ (j : ℤ) (y : Float). in_square z i x j y) column_at column.part)
-        (sub_ℕ row.line 2048) row.part }
-{
-    if row.part == 0.0 {
-        let above = in_row(rows, left, right, row.line, 0.0, column);
-        if let Spot::At(z) = above {
-            return Spot::At(z);
+    // The height at x past row i - 2048 and at a column's place: on a grid line in the square above it, else
+    // in the one below.
+    #[tactic(auto, using(crate::proofs::Squares::tried_below), unfolding(crate::specs::Elevation::tried_at, crate::specs::Elevation::or_spot))]
+    fn in_row(self, i: usize, x: f64, column: Place) -> Option<f64>
+        requires { (0 < i) × (i < 2 ^ 30) × (1 < column.line) × (column.line < 2 ^ 30) }
+        ensures { let z = heights_of self.entry in
+            result ≡ tried_at (λ (j : ℤ) (y : Float). in_square z (sub_ℕ i 2048) x j y) (sub_ℕ column.line 2048) column.part }
+    {
+        if column.part == 0.0 {
+            let above = self.in_square(i, x, column.line, 0.0);
+            if above.is_some() {
+                return above;
+            }
+            return self.in_square(i, x, column.line - 1, 1.0);
         }
-        return in_row(rows, left, right, row.line - 1, 1.0, column);
+        self.in_square(i, x, column.line, column.part)
     }
-    in_row(rows, left, right, row.line, row.part, column)
+
+    // The height at a row's place and a column's: on a grid line in the squares above it, else in those
+    // below.
+    #[tactic(auto, using(crate::proofs::Squares::tried_below), unfolding(crate::specs::Elevation::tried_at, crate::specs::Elevation::or_spot))]
+    fn on_grid(self, row: Place, column: Place) -> Option<f64>
+        requires { (1 < row.line) × (row.line < 2 ^ 30) × (1 < column.line) × (column.line < 2 ^ 30) }
+        ensures { let z = heights_of self.entry in
+            let column_at = sub_ℕ column.line 2048 in
+            result ≡ tried_at (λ (i : ℤ) (x : Float). tried_at (λ (j : ℤ) (y : Float). in_square z i x j y) column_at column.part)
+            (sub_ℕ row.line 2048) row.part }
+    {
+        if row.part == 0.0 {
+            let above = self.in_row(row.line, 0.0, column);
+            if above.is_some() {
+                return above;
+            }
+            return self.in_row(row.line - 1, 1.0, column);
+        }
+        self.in_row(row.line, row.part, column)
+    }
 }
 
 // A NaN is never between.
+#[tactic(auto, unfolding(crate::specs::Elevation::within))]
 fn is_within(lo: f64, x: f64, hi: f64) -> bool
     ensures { result ≡ within lo x hi }
 {
-    if lo <= x { x <= hi } else { false }
+    lo <= x && x <= hi
 }
 
-// The height at (s, t) along and to the left of the reference line, in lists that are not faulty.
-// `most` is their longest side, as `check_grid` finds it.
-pub(crate) fn height_in(
-    grid: ElevationGrid,
-    rows: &[u32],
-    left: &[f64],
-    right: &[f64],
-    most: usize,
-    s: f64,
-    t: f64,
-) -> Spot
-    requires { Limits rows.now most }
-    ensures { result ≡ height_of grid rows.now left.now right.now s t }
-{
-    let spacing = grid.spacing;
-    if spacing != spacing {
-        return Spot::Missing;
+impl Survey<'_> {
+    // The height at (s, t) along and to the left of the reference line, if there is one.
+    #[tactic(auto, using(crate::proofs::Squares::row_near, crate::proofs::Squares::column_near, crate::proofs::Squares::on_grid_is, crate::proofs::Heights::count_whole), unfolding(crate::specs::Elevation::height_of, crate::specs::Elevation::coords_of))]
+    pub(crate) fn height(self, grid: ElevationGrid, s: f64, t: f64) -> Option<f64>
+        ensures { let h = self.entry.heights in result ≡ height_of grid h.rows.now h.left.now h.right.now s t }
+    {
+        let spacing = grid.spacing;
+        let m = self.heights.rows.len() / 6;
+        if spacing.is_nan() || spacing <= 0.0 || m == 0 {
+            return None;
+        }
+        let u = snap((s - grid.start) / spacing);
+        let v = snap(t / spacing);
+        let last = (m - 1) as f64;
+        let wide = self.most as f64;
+        if !is_within(0.0, u, last) || !is_within(-wide, v, wide) {
+            return None;
+        }
+        self.heights.on_grid(place_of(u), place_of(v))
     }
-    if spacing <= 0.0 {
-        return Spot::Missing;
-    }
-    let m = rows.len() / 6;
-    if m == 0 {
-        return Spot::Missing;
-    }
-    let u = snap((s - grid.start) / spacing);
-    let v = snap(t / spacing);
-    let last = (m - 1) as f64;
-    let wide = most as f64;
-    if !is_within(0.0, u, last) {
-        return Spot::Missing;
-    }
-    if !is_within(-wide, v, wide) {
-        return Spot::Missing;
-    }
-    on_grid(rows, left, right, place_of(u), place_of(v))
 }
 
 // ---- the check of the lists
 
-// What is found of a grid's lists: something past its limit, something ragged, or how many heights the
-// longest side of all rows has.
-#[derive(Clone, Copy)]
-pub enum GridCheck {
+// What is at fault with a grid's lists: something past its limit, or something ragged.
+#[derive(Clone, Copy, PartialEq, Eq, Debug)]
+pub enum GridFault {
     Long,
     Ragged,
-    Widest(usize),
-}
-
-// The longest side of some rows that are in order, if they are.
-#[derive(Clone, Copy)]
-pub enum Pass {
-    Odd,
-    Sound(usize),
-}
-
-fn larger(a: usize, b: usize) -> usize
-    ensures { result ≡ max a b }
-{
-    if a < b { b } else { a }
 }
 
 // How long a run is.
 fn span(run: Run) -> usize
     ensures { result ≡ run.end - run.start }
 {
-    if run.start < run.end {
-        run.end - run.start
-    } else {
-        0
-    }
+    run.end.saturating_sub(run.start)
 }
 
 // Is a run of a list of n sound, and within the limit? `last` is where the last one ended.
+#[tactic(auto, unfolding(crate::specs::ElevationSteps::odd_run))]
 fn in_order(run: Run, last: usize, n: usize) -> bool
     ensures { result ≡ not (odd_run run last n) }
 {
-    if run.end < run.start {
-        return false;
-    }
-    if run.start < last {
-        return false;
-    }
-    if n < run.end {
-        return false;
-    }
-    if MAX_SIDE < span(run) {
-        return false;
-    }
-    true
+    run.start <= run.end && last <= run.start && run.end <= n && span(run) <= MAX_SIDE
 }
 
-// Looks through m rows once, as far as they are in order.
-fn check_rows(rows: &[u32], left: usize, right: usize, m: usize) -> Pass
-    requires { (m ≡ row_count rows.now) × (m ≤ max_rows) }
-    ensures { result ≡ pass_of rows.now left right }
-{
-    let mut most: usize = 0;
-    let mut last_left: usize = 0;
-    let mut last_right: usize = 0;
-    let mut k: usize = 0;
-    while k < m {
-        let here = row(rows, k);
-        let a = here.left;
-        let b = here.right;
-        if !in_order(a, last_left, left) {
-            return Pass::Odd;
+impl<'a> Heights<'a> {
+    // The longest side of the rows, if they are in order: looks through them once, as far as they are.
+    fn longest_side(self) -> Option<usize>
+        ensures { let h = self.entry in result ≡ pass_of h.rows.now (length h.left.now) (length h.right.now) }
+    {
+        let mut most: usize = 0;
+        let mut last_left: usize = 0;
+        let mut last_right: usize = 0;
+        let left = self.left.len();
+        let right = self.right.len();
+        for k in 0..self.rows.len() / 6 {
+            let here = self.row(k);
+            if !in_order(here.left, last_left, left) || !in_order(here.right, last_right, right) {
+                return None;
+            }
+            most = most.max(span(here.left)).max(span(here.right));
+            last_left = here.left.end;
+            last_right = here.right.end;
         }
-        if !in_order(b, last_right, right) {
-            return Pass::Odd;
+        Some(most)
+    }
+
+    // What is at fault with rows that are not all in order.
+    #[tactic(auto, unfolding(crate::specs::ElevationSteps::fault_of))]
+    fn fault(self) -> GridFault
+        ensures { result ≡ fault_of self.entry.rows.now }
+    {
+        let rows = Records::<6> { words: self.rows };
+        if rows.any_long(2, MAX_SIDE) || rows.any_long(4, MAX_SIDE) {
+            GridFault::Long
+        } else {
+            GridFault::Ragged
         }
-        most = larger(larger(most, span(a)), span(b));
-        last_left = a.end;
-        last_right = b.end;
-        k += 1;
     }
-    Pass::Sound(most)
-}
 
-// What is at fault with rows that are not all in order.
-fn fault(rows: &[u32]) -> GridCheck
-    requires { length rows.now ≤ 6 * max_rows }
-    ensures { result ≡ fault_of rows.now }
-{
-    let m = rows.len() / 6;
-    if any_long(rows, 6, 2, MAX_SIDE, m) {
-        return GridCheck::Long;
-    }
-    if any_long(rows, 6, 4, MAX_SIDE, m) {
-        return GridCheck::Long;
-    }
-    GridCheck::Ragged
-}
-
-// Looks through the rows. `left` and `right` are the lengths of the lists of heights. What is at fault
-// is only searched for if anything is.
-pub(crate) fn check_grid(rows: &[u32], left: usize, right: usize) -> GridCheck
-    ensures { result ≡ grid_check rows.now left right }
-{
-    if 6 * MAX_ROWS < rows.len() {
-        return GridCheck::Long;
-    }
-    let seen = check_rows(rows, left, right, rows.len() / 6);
-    let Pass::Sound(most) = seen else {
-        return fault(rows);
-    };
-    if rows.len() % 6 != 0 {
-        return GridCheck::Ragged;
-    }
-    GridCheck::Widest(most)
-}
-
-// What was found, as the faults of a call: a limit that is past, and ragged rows, which are list `rows` of the
-// call. Where there is neither, the longest side of all rows.
-pub(crate) fn grid_limits(seen: GridCheck) -> Check
-    ensures { found result ≡ limits_seen seen }
-{
-    match seen {
-        GridCheck::Long => Check::Faulty(Refusal::Oversize(MAX_ROWS)),
-        GridCheck::Ragged => Check::Fine,
-        GridCheck::Widest(most) => Check::Fine,
-    }
-}
-
-pub(crate) fn grid_ragged(seen: GridCheck, rows: usize) -> Check
-    ensures { found result ≡ ragged_seen rows seen }
-{
-    match seen {
-        GridCheck::Long => Check::Fine,
-        GridCheck::Ragged => Check::Faulty(Refusal::Ragged(rows)),
-        GridCheck::Widest(most) => Check::Fine,
-    }
-}
-
-pub(crate) fn widest(seen: GridCheck) -> usize
-    ensures { result ≡ widest_seen seen }
-{
-    match seen {
-        GridCheck::Long => 0,
-        GridCheck::Ragged => 0,
-        GridCheck::Widest(most) => most,
-    }
-}
-
-// The height at (s, t) along and to the left of the reference line.
-pub fn height(
-    grid: ElevationGrid,
-    rows: &[u32],
-    left: &[f64],
-    right: &[f64],
-    s: f64,
-    t: f64,
-) -> Elevation
-    ensures { answered result ≡ height_answer grid rows.now left.now right.now s t }
-{
-    let found = check_grid(rows, left.len(), right.len());
-    let most = match found {
-        GridCheck::Long => {
-            return Elevation::Refused(Refusal::Oversize(MAX_ROWS));
+    // Looks through the rows. What is at fault is only searched for if anything is.
+    #[tactic(auto, using(crate::proofs::Surveys::found_long, crate::proofs::Surveys::found_odd, crate::proofs::Surveys::found_uneven, crate::proofs::Surveys::found_widest), unfolding(crate::specs::Lists::longer, crate::specs::Lists::uneven))]
+    pub(crate) fn survey(self) -> Result<Survey<'a>, GridFault>
+        ensures { let h = self.entry in let found = grid_check h.rows.now (length h.left.now) (length h.right.now) in
+            MatchResult result (λ s. (s.heights ≡ h) × (found ≡ Ok s.most)) (λ e. found ≡ Err e) }
+    {
+        if 6 * MAX_ROWS < self.rows.len() {
+            return Err(GridFault::Long);
         }
-        GridCheck::Ragged => {
-            return Elevation::Refused(Refusal::Ragged(0));
+        let Some(most) = self.longest_side() else {
+            return Err(self.fault());
+        };
+        if self.rows.len() % 6 != 0 {
+            return Err(GridFault::Ragged);
         }
-        GridCheck::Widest(most) => most,
-    };
-    let z = height_in(grid, rows, left, right, most, s, t);
-    match z {
-        Spot::At(h) => Elevation::Height(h),
-        Spot::Missing => Elevation::None,
+        Ok(Survey {
+            heights: self,
+            most,
+        })
+    }
+}
+
+// The height at (s, t) along and to the left of the reference line, if there is one.
+#[tactic(auto, using(crate::proofs::Surveys::says_long, crate::proofs::Surveys::says_ragged, crate::proofs::Surveys::says_widest), unfolding(crate::specs::Refusal::told, crate::specs::Refusal::judge, crate::specs::Refusal::refuse, crate::specs::Elevation::height_answer, crate::specs::Elevation::grid_fault, crate::specs::Refusal::number_of, crate::specs::Refusal::place_of))]
+pub fn height(grid: ElevationGrid, heights: Heights, s: f64, t: f64) -> Result<Option<f64>, Refusal>
+    ensures { let h = heights.entry in told result ≡ height_answer grid h.rows.now h.left.now h.right.now s t }
+{
+    match heights.survey() {
+        Err(GridFault::Long) => Err(Refusal::Oversize(MAX_ROWS)),
+        Err(GridFault::Ragged) => Err(Refusal::Ragged(0)),
+        Ok(survey) => Ok(survey.height(grid, s, t)),
     }
 }
 
 // Where (x, y) is on the reference line: s along it and t to its left.
+#[tactic(auto, unfolding(crate::specs::Elevation::locate_of))]
 pub fn locate(grid: ElevationGrid, x: f64, y: f64) -> Station
     ensures { result ≡ locate_of grid x y }
 {
@@ -716,16 +593,15 @@ pub fn locate(grid: ElevationGrid, x: f64, y: f64) -> Station
 }
 
 // The ground's height under (x, y).
+#[tactic(auto, unfolding(crate::specs::Elevation::height_at_answer))]
 pub fn height_at(
     grid: ElevationGrid,
-    rows: &[u32],
-    left: &[f64],
-    right: &[f64],
+    heights: Heights,
     x: f64,
     y: f64,
-) -> Elevation
-    ensures { answered result ≡ height_at_answer grid rows.now left.now right.now x y }
+) -> Result<Option<f64>, Refusal>
+    ensures { let h = heights.entry in told result ≡ height_at_answer grid h.rows.now h.left.now h.right.now x y }
 {
     let at = locate(grid, x, y);
-    height(grid, rows, left, right, at.s, at.t)
+    height(grid, heights, at.s, at.t)
 }

@@ -1,12 +1,13 @@
 // The outline of a junction: its boundary segments joined to one ring of points.
-ghost use Rattle.std.specs.Prelude.{◌≡◌, ℕ, ◌+◌, ◌-◌, ◌*◌, ◌/◌, ◌^◌, ◌<◌, ◌≤◌, true, List, [], ◌∷◌, length, Float};
+ghost use Rattle.std.specs.Prelude.{IsTrue, MatchOption, MatchResult, ◌≡◌, ℕ, ◌+◌, ◌-◌, ◌*◌, ◌/◌, ◌^◌, ◌<◌, ◌≤◌, true, List, length, Float};
 ghost use Rattle.std.specs.Float.Ieee.{lt, le};
 ghost use Rattle.rounding.specs.Extremes.{max_of};
 ghost use Rattle.rounding.specs.Hypot.{hypot_of};
+ghost use Rattle.rounding.specs.Numbers.{nought};
 ghost use Rattle.rounding.specs.Thresholds.{milli};
 ghost use Rattle.vector.specs.declared.coords.Point.{Point};
 ghost use Rattle.shape.specs.Memory.{Put};
-ghost use Rattle.shape.specs.Lists.{max_segments, max_boundary_points, start_of, end_of, last_end};
+ghost use Rattle.shape.specs.Lists.{max_boundary_points, last_end};
 ghost use Rattle.shape.specs.Refusal.{found, fine};
 ghost use Rattle.shape.specs.Outline.{
   reach_of,
@@ -16,7 +17,8 @@ ghost use Rattle.shape.specs.Outline.{
   first_of,
   final_of,
   solid,
-  segment_of,
+  solids,
+  segment_at,
   last_of,
   is_new,
   added,
@@ -38,17 +40,33 @@ ghost use Rattle.shape.specs.Outline.{
   outline_fault,
   Outlines,
 };
-ghost use Rattle.shape.specs.OutlineSteps.{squares_between, rooted_of, Wide, Squares, GapCovers, SoundLists, Holds, Joins};
+ghost use Rattle.shape.specs.OutlineSteps.{squares_between, rooted_of, Wide, Squares, Skips, Adds, Holds};
 
-use crate::lists::{MAX_BOUNDARY_POINTS, MAX_SEGMENTS, any_bad, point_at, record_word};
-use crate::memory::put_singles;
-use crate::refusal::{Check, Refusal, oversize_if, ragged_if};
+use crate::lists::{MAX_BOUNDARY_POINTS, MAX_SEGMENTS, Records, point_at};
+use crate::memory::put;
+use crate::refusal::{Refusal, refuse_if};
 use rounding::compare::{hypot_above_milli, hypot_at_most_milli};
-use rounding::extremes::{max32, min32};
+use rounding::extremes::{max, min};
 use rounding::hypot::{hypot, squares};
 use rounding::root::sqrt64;
 use rounding::width::narrow;
 use vector::coords::Point;
+
+// A boundary as it is lent: its segments, each the start and the end of a run of the points, and the
+// points' coordinates in threes.
+#[derive(Clone, Copy)]
+pub struct Boundary<'a> {
+    pub segments: &'a [u32],
+    pub points: &'a [f32],
+}
+
+// A boundary whose lists are not turned back.
+#[derive(Clone, Copy)]
+struct Checked<'a> {
+    segments: Records<'a, 2>,
+    points: &'a [f32],
+    ghost sound: { outline_fault segments.words.now points.now ≡ fine },
+}
 
 // A ring that was made: how many points it has, how many segments were empty, the greatest gap, whether
 // that is at most 0.1, and whether the ring ran clockwise and was reversed.
@@ -59,12 +77,6 @@ pub struct Outline {
     pub gap: f32,
     pub closed: bool,
     pub turned: bool,
-}
-
-#[derive(Clone, Copy)]
-pub enum OutlineAnswer {
-    Made(Outline),
-    Refused(Refusal),
 }
 
 // The ring so far: how many points it has, and the last of them.
@@ -79,6 +91,8 @@ struct RingSoFar {
 struct Gap {
     root: f32,
     squares: f64,
+    ghost least: { IsTrue (le nought squares) },
+    ghost under: { IsTrue (le (rooted_of squares) root) },
 }
 
 // The ring so far, with how many segments it is made of and the greatest gap between them.
@@ -89,6 +103,19 @@ struct Joined {
     gap: Gap,
 }
 
+// The ring of no segments.
+const NOTHING: Joined = Joined {
+    ring: RingSoFar {
+        count: 0,
+        last: Point::ORIGIN,
+    },
+    segments: 0,
+    gap: Gap {
+        root: 0.0,
+        squares: 0.0,
+    },
+};
+
 // How a segment is joined on: from its end or not, and the greatest gap with it.
 #[derive(Clone, Copy)]
 struct Turn {
@@ -98,6 +125,7 @@ struct Turn {
 
 // ---- distances in x and y
 
+#[tactic(auto, unfolding(crate::specs::Outline::reach_of))]
 fn reach(p: Point, q: Point) -> f32
     ensures { result ≡ reach_of p q }
 {
@@ -108,10 +136,7 @@ fn reach(p: Point, q: Point) -> f32
 fn is_wide(x: f32) -> bool
     ensures { result ≡ true → Wide x }
 {
-    if x >= 0.002 {
-        return true;
-    }
-    x <= -0.002
+    x >= 0.002 || x <= -0.002
 }
 
 // One difference alone says that most points lie more than 1e-3 apart; a NaN beside it says no.
@@ -128,18 +153,17 @@ fn clearly_apart(x: f32, y: f32) -> bool
 }
 
 // Is the distance above 1e-3? No root is taken for it, nor for the next.
+#[tactic(auto, unfolding(crate::specs::Outline::reach_of))]
 fn apart(p: Point, q: Point) -> bool
     ensures { result ≡ lt milli (reach_of p q) }
 {
     let x = p.x - q.x;
     let y = p.y - q.y;
-    if clearly_apart(x, y) {
-        return true;
-    }
-    hypot_above_milli(x, y)
+    clearly_apart(x, y) || hypot_above_milli(x, y)
 }
 
 // Is it at most 1e-3?
+#[tactic(auto, unfolding(crate::specs::Outline::reach_of))]
 fn meets(p: Point, q: Point) -> bool
     ensures { result ≡ le (reach_of p q) milli }
 {
@@ -147,12 +171,16 @@ fn meets(p: Point, q: Point) -> bool
 }
 
 // The sum of squares whose root is the distance.
+#[tactic(auto, using(crate::proofs::Reaching::rooted_between, crate::proofs::Reaching::squares_least), unfolding(crate::specs::OutlineSteps::squares_between))]
 fn squares_between(p: Point, q: Point) -> f64
-    ensures { result ≡ squares_between p q }
+    ensures value { result ≡ squares_between p q }
+    ensures rooted { rooted_of result ≡ reach_of p q }
+    ensures least { Squares result }
 {
     squares(p.x - q.x, p.y - q.y)
 }
 
+#[tactic(auto, unfolding(crate::specs::OutlineSteps::rooted_of))]
 fn root(s: f64) -> f32
     ensures { result ≡ rooted_of s }
 {
@@ -170,37 +198,35 @@ fn nearer(a: f64, b: f64) -> bool
     root(a) < root(b)
 }
 
-// The greatest gap, where the root of s is one more. No root is taken where s is not above the squares.
-fn widened(gap: Gap, s: f64) -> Gap
-    requires { GapCovers gap × Squares s }
-    ensures { (result.root ≡ max_of gap.root (rooted_of s)) × GapCovers result }
-{
-    if s > gap.squares {
-        return Gap {
-            root: max32(gap.root, root(s)),
-            squares: s,
-        };
+#[tactic(auto, using(crate::proofs::Reaching::covers_least, crate::proofs::Reaching::covers_under, crate::proofs::Reaching::covers_same))]
+impl Gap {
+    // With the root of s as one more. No root is taken where s is not above the squares.
+    fn widened(self, s: f64) -> Gap
+        requires { Squares s }
+        ensures { result.root ≡ max_of self.root (rooted_of s) }
+    {
+        if s > self.squares {
+            return Gap {
+                root: max(self.root, root(s)),
+                squares: s,
+            };
+        }
+        self
     }
-    gap
 }
 
 // The distance to the nearer of two places.
+#[tactic(auto, unfolding(crate::specs::Outline::nearness_of))]
 fn nearness(p: Point, a: Point, b: Point) -> f32
     ensures { result ≡ nearness_of p a b }
 {
-    min32(min32(3.4028235e38, reach(p, a)), reach(p, b))
+    min(min(f32::MAX, reach(p, a)), reach(p, b))
 }
 
 // ---- which way round
 
-// The last of n places, and 0 where there is none.
-fn before_end(n: usize) -> usize
-    ensures { result ≡ n - 1 }
-{
-    if n == 0 { 0 } else { n - 1 }
-}
-
 // Place i of n from the front, or from the back.
+#[tactic(auto, unfolding(crate::specs::Outline::place_from))]
 fn place(back: bool, n: usize, i: usize) -> usize
     requires { i < n }
     ensures { (result ≡ place_from back n i) × (result < n) }
@@ -217,10 +243,11 @@ fn first_point(s: &[f32]) -> Point
 fn final_point(s: &[f32]) -> Point
     ensures { result ≡ final_of s.now }
 {
-    point_at(s, before_end(s.len() / 3))
+    point_at(s, (s.len() / 3).saturating_sub(1))
 }
 
 // Is the first segment s reversed, where t is the second?
+#[tactic(auto, unfolding(crate::specs::Outline::turns_first))]
 fn turns_first(s: &[f32], t: &[f32]) -> bool
     ensures { result ≡ turns_first s.now t.now }
 {
@@ -233,101 +260,96 @@ fn turns_first(s: &[f32], t: &[f32]) -> bool
 
 // A later segment s, where the ring ends at `end`. The gap to it is one of the two distances compared.
 fn turn_later(end: Point, gap: Gap, s: &[f32]) -> Turn
-    requires { GapCovers gap }
     ensures { let back = turns_later end s.now in
         (result.back ≡ back)
-        × (result.gap.root ≡ max_of gap.root (reach_of end (point_from back s.now 0)))
-        × GapCovers result.gap }
+        × (result.gap.root ≡ max_of gap.root (reach_of end (point_from back s.now 0))) }
 {
     let far = squares_between(end, final_point(s));
     let near = squares_between(end, first_point(s));
     if nearer(far, near) {
         return Turn {
             back: true,
-            gap: widened(gap, far),
+            gap: gap.widened(far),
         };
     }
     Turn {
         back: false,
-        gap: widened(gap, near),
+        gap: gap.widened(near),
     }
 }
 
-// The first segment from k on that is not empty, or how many segments there are.
-fn next_solid(segments: &[u32], k: usize) -> usize
-    requires { (k ≤ length segments.now / 2) × (length segments.now ≤ 2 * max_segments) }
-    ensures lower_bound { (k ≤ result) × (result ≤ length segments.now / 2) × (length (solid segments.now result) ≡ length (solid segments.now k)) }
-    ensures result_bound { result < length segments.now / 2 → start_of 2 0 segments.now result < end_of 2 0 segments.now result }
-{
-    let n = segments.len() / 2;
-    let mut i = k;
-    while i < n {
-        if record_word(segments, 2, i, 0) < record_word(segments, 2, i, 1) {
-            return i;
+// ---- the segments
+
+impl<'a> Checked<'a> {
+    // Segment k, unless it is empty.
+    #[tactic(auto, using(crate::proofs::Joining::sound_lists, crate::proofs::Joining::last_end_within))]
+    fn segment(self, k: usize) -> Option<&'a [f32]>
+        requires { k < length self.segments.words.now / 2 }
+        ensures given { MatchOption result (Skips self.entry.segments.words.now k) (λ s. Adds self.entry.segments.words.now self.entry.points.now k s.now) }
+        ensures ends { last_end 2 0 self.entry.segments.words.now (k + 1) ≤ length self.entry.points.now / 3 }
+    {
+        let a = self.segments.whole_word(k, 0);
+        let e = self.segments.whole_word(k, 1);
+        if e <= a {
+            return None;
         }
-        i += 1;
+        Some(&self.points[3 * a..3 * e])
     }
-    i
-}
 
-// Is the first segment that is not empty, s with the number k, reversed? With no second it is not.
-fn first_turns(segments: &[u32], points: &[f32], s: &[f32], k: usize) -> bool
-    requires at_segment { let ws = segments.now in
-        (k < length ws / 2) × (start_of 2 0 ws k < end_of 2 0 ws k) × (length (solid ws k) ≡ 0)
-        × (s.now ≡ segment_of ws points.now k) }
-    requires sound_lists { SoundLists segments.now points.now }
-    ensures { (end : Point) → result ≡ turns_at segments.now points.now 0 end }
-{
-    let next = next_solid(segments, k + 1);
-    if next == segments.len() / 2 {
-        return false;
+    // The first segment from k on that is not empty, if there is one.
+    fn next_solid(self, k: usize) -> Option<&'a [f32]>
+        requires { k ≤ length self.segments.words.now / 2 }
+        ensures { let ws = self.entry.segments.words.now in
+            let i = length (solid ws k) in
+            MatchOption result (solids ws ≡ i) (λ s. (i < solids ws) × (s.now ≡ segment_at ws self.entry.points.now i)) }
+    {
+        for i in k..self.segments.len() {
+            if let Some(s) = self.segment(i) {
+                return Some(s);
+            }
+        }
+        None
     }
-    let a = 3 * record_word(segments, 2, next, 0);
-    let e = 3 * record_word(segments, 2, next, 1);
-    turns_first(s, &points[a..e])
-}
 
-// How segment s, with the number k and not empty, is joined to the ring that j tells of.
-fn turn_at(segments: &[u32], points: &[f32], s: &[f32], j: Joined, k: usize) -> Turn
-    requires at_segment { let ws = segments.now in
-        (k < length ws / 2) × (start_of 2 0 ws k < end_of 2 0 ws k) × (j.segments ≡ length (solid ws k))
-        × (s.now ≡ segment_of ws points.now k) × GapCovers j.gap }
-    requires sound_lists { SoundLists segments.now points.now }
-    ensures { let ws = segments.now in
-        let xs = points.now in
-        (result.back ≡ turns_at ws xs j.segments j.ring.last)
-        × (result.gap.root ≡ gap_at ws xs j.segments j.ring.last j.gap.root)
-        × GapCovers result.gap }
-{
-    let ring = j.ring;
-    let gap = j.gap;
-    if j.segments == 0 {
-        return Turn {
-            back: first_turns(segments, points, s, k),
-            gap: gap,
-        };
+    // Is the first segment that is not empty, s with the number k, reversed? With no second it is not.
+    #[tactic(auto, using(crate::proofs::Joining::turn_alone, crate::proofs::Joining::turn_followed))]
+    fn first_turns(self, s: &[f32], k: usize) -> bool
+        requires { let ws = self.segments.words.now in
+            (k < length ws / 2) × (length (solid ws (k + 1)) ≡ 1) × (s.now ≡ segment_at ws self.points.now 0) }
+        ensures { (end : Point) → result ≡ turns_at self.entry.segments.words.now self.entry.points.now 0 end }
+    {
+        match self.next_solid(k + 1) {
+            Some(t) => turns_first(s, t),
+            None => false,
+        }
     }
-    turn_later(ring.last, gap, s)
+
+    // How segment s, with the number k and not empty, is joined to the ring that j tells of.
+    fn turn_at(self, s: &[f32], j: Joined, k: usize) -> Turn
+        requires { let ws = self.segments.words.now in
+            (k < length ws / 2) × (length (solid ws (k + 1)) ≡ j.segments + 1) × (s.now ≡ segment_at ws self.points.now j.segments) }
+        ensures { let ws = self.entry.segments.words.now in
+            let xs = self.entry.points.now in
+            (result.back ≡ turns_at ws xs j.segments j.ring.last)
+            × (result.gap.root ≡ gap_at ws xs j.segments j.ring.last j.gap.root) }
+    {
+        if j.segments == 0 {
+            return Turn {
+                back: self.first_turns(s, k),
+                gap: j.gap,
+            };
+        }
+        turn_later(j.ring.last, j.gap, s)
+    }
 }
 
 // ---- joining
-
-// A point into the memory, from `at` on.
-fn put_point(out: &mut [f32], at: usize, p: Point) -> usize
-    requires { at + 3 ≤ length out.old }
-    ensures { Put out.old out.new at (flat (p ∷ [])) result }
-{
-    put_singles(out, at, p.x, p.y, p.z)
-}
 
 // Is a point the first of all, or more than 1e-3 from the last?
 fn is_new(h: RingSoFar, p: Point) -> bool
     ensures { (ring : List Point) → h.count ≡ length ring → h.last ≡ last_of ring → result ≡ is_new ring p }
 {
-    if h.count == 0 {
-        return true;
-    }
-    apart(p, h.last)
+    h.count == 0 || apart(p, h.last)
 }
 
 // A point, if it is new.
@@ -336,7 +358,7 @@ fn add_point(line: &mut [f32], h: RingSoFar, p: Point) -> RingSoFar
     ensures { ((blank : List Float) (ring : List Point) → Holds blank line.old ring h → Holds blank line.new (added ring p) result) × (result.count ≤ h.count + 1) }
 {
     if is_new(h, p) {
-        put_point(line, 3 * h.count, p);
+        put(line, 3 * h.count, [p.x, p.y, p.z]);
         return RingSoFar {
             count: h.count + 1,
             last: p,
@@ -356,97 +378,71 @@ fn append(s: &[f32], back: bool, line: &mut [f32], from: RingSoFar) -> RingSoFar
 {
     let n = s.len() / 3;
     let mut h = from;
-    let mut i: usize = 0;
-    while i < n {
+    for i in 0..n {
         let p = point_at(s, place(back, n, i));
         h = add_point(line, h, p);
-        i += 1;
     }
     h
 }
 
-// Segment k, unless it is empty. It is passed on as its part of the list of points.
-fn join_step(segments: &[u32], points: &[f32], line: &mut [f32], j: Joined, k: usize) -> Joined
-    requires at_segment { let ws = segments.now in
-        (k < length ws / 2) × (length points.now ≤ length line.old) × (j.ring.count ≤ last_end 2 0 ws k)
-        × (j.segments ≡ length (solid ws k)) × GapCovers j.gap }
-    requires sound_lists { SoundLists segments.now points.now }
-    ensures { let ws = segments.now in
-        let xs = points.now in
-        ((blank : List Float) →
-        Joins ws xs blank line.old k j →
-        Joins ws xs blank line.new (k + 1) result)
-        × (result.ring.count ≤ last_end 2 0 ws (k + 1))
-        × GapCovers result.gap }
-{
-    let a = record_word(segments, 2, k, 0);
-    let e = record_word(segments, 2, k, 1);
-    if e <= a {
-        return j;
-    }
-    let from = 3 * a;
-    let to = 3 * e;
-    let t = turn_at(segments, points, &points[from..to], j, k);
-    let ring = j.ring;
-    let h = append(&points[from..to], t.back, line, ring);
-    let gap = t.gap;
-    Joined {
-        ring: h,
-        segments: j.segments + 1,
-        gap: gap,
-    }
-}
+impl Checked<'_> {
+    ghost use Rattle.shape.specs.OutlineJoins.{Joins};
 
-// All segments, one after another.
-fn join(segments: &[u32], points: &[f32], line: &mut [f32]) -> Joined
-    requires sound_lists { SoundLists segments.now points.now }
-    requires points_in_bounds { length points.now ≤ length line.old }
-    ensures { let ws = segments.now in
-        let xs = points.now in
-        Joins ws xs line.old line.new (length ws / 2) result × (3 * result.ring.count ≤ length xs) }
-{
-    let none = RingSoFar {
-        count: 0,
-        last: Point {
-            x: 0.0,
-            y: 0.0,
-            z: 0.0,
-        },
-    };
-    let gap = Gap {
-        root: 0.0,
-        squares: 0.0,
-    };
-    let mut j = Joined {
-        ring: none,
-        segments: 0,
-        gap: gap,
-    };
-    let mut k: usize = 0;
-    while k < segments.len() / 2 {
-        j = join_step(segments, points, line, j, k);
-        k += 1;
+    // The ring with segment k joined on, unless the segment is empty.
+    fn join_step(self, line: &mut [f32], j: Joined, k: usize) -> Joined
+        requires { let ws = self.segments.words.now in
+            (k < length ws / 2) × (length self.points.now ≤ length line.old) × (j.ring.count ≤ last_end 2 0 ws k)
+            × (j.segments ≡ length (solid ws k)) }
+        ensures { let ws = self.entry.segments.words.now in
+            let xs = self.entry.points.now in
+            ((blank : List Float) →
+            Joins ws xs blank line.old k j →
+            Joins ws xs blank line.new (k + 1) result)
+            × (result.ring.count ≤ last_end 2 0 ws (k + 1)) }
+    {
+        let Some(s) = self.segment(k) else {
+            return j;
+        };
+        let t = self.turn_at(s, j, k);
+        Joined {
+            ring: append(s, t.back, line, j.ring),
+            segments: j.segments + 1,
+            gap: t.gap,
+        }
     }
-    j
+
+    // All segments, one after another.
+    fn join(self, line: &mut [f32]) -> Joined
+        requires { length self.points.now ≤ length line.old }
+        ensures { let ws = self.entry.segments.words.now in
+            let xs = self.entry.points.now in
+            Joins ws xs line.old line.new (length ws / 2) result × (3 * result.ring.count ≤ length xs) }
+    {
+        let mut j = NOTHING;
+        for k in 0..self.segments.len() {
+            j = self.join_step(line, j, k);
+        }
+        j
+    }
 }
 
 // ---- the ring as a whole
 
 // How many points the ring has without its closing point.
+#[tactic(auto, using(crate::proofs::Joining::one_less, crate::proofs::Joining::all_far, crate::proofs::Joining::all_few))]
 fn open_count(ring: &[f32]) -> usize
     requires { length ring.now < 2 ^ 60 }
     ensures { ((line : List Point) → ring.now ≡ flat line → result ≡ length (closed_up line)) × (result ≤ length ring.now / 3) }
 {
     let n = ring.len() / 3;
-    if 1 < n {
-        if meets(first_point(ring), final_point(ring)) {
-            return n - 1;
-        }
+    if 1 < n && meets(first_point(ring), final_point(ring)) {
+        return n - 1;
     }
     n
 }
 
 // The place after i on a ring of n: the first after the last.
+#[tactic(auto, unfolding(crate::specs::Outline::next_on))]
 fn next_on(n: usize, i: usize) -> usize
     requires { i < 2 ^ 60 }
     ensures { (result ≡ next_on n i) × (result ≤ 2 ^ 60) }
@@ -471,10 +467,8 @@ fn signed_area(ring: &[f32]) -> f32
 {
     let n = ring.len() / 3;
     let mut area = side_at(ring, n, 0);
-    let mut i: usize = 1;
-    while i < n {
-        area = area + side_at(ring, n, i);
-        i += 1;
+    for i in 1..n {
+        area += side_at(ring, n, i);
     }
     area
 }
@@ -486,16 +480,15 @@ fn put_ring(ring: &[f32], back: bool, out: &mut [f32]) -> usize
 {
     let n = ring.len() / 3;
     let mut q: usize = 0;
-    let mut i: usize = 0;
-    while i < n {
-        q = put_point(out, q, point_at(ring, place(back, n, i)));
-        i += 1;
+    for i in 0..n {
+        let p = point_at(ring, place(back, n, i));
+        q = put(out, q, [p.x, p.y, p.z]);
     }
     q
 }
 
 // The answer for a ring that was joined with the greatest gap given.
-fn finish(ring: &[f32], gap: f32, dropped: usize, out: &mut [f32]) -> OutlineAnswer
+fn finish(ring: &[f32], gap: f32, dropped: usize, out: &mut [f32]) -> Result<Outline, Refusal>
     requires { length ring.now < 2 ^ 60 }
     ensures { (ws : List ℕ) (xs : List Float) →
         outline_fault ws xs ≡ fine →
@@ -506,104 +499,112 @@ fn finish(ring: &[f32], gap: f32, dropped: usize, out: &mut [f32]) -> OutlineAns
 {
     let count = open_count(ring);
     let size = 3 * count;
-    if out.len() < size {
-        return OutlineAnswer::Refused(Refusal::ShortOutput(size));
-    }
+    refuse_if(out.len() < size, Refusal::ShortOutput(size))?;
     let open = &ring[..size];
-    let widest = max32(gap, reach(final_point(ring), first_point(ring)));
+    let widest = max(gap, reach(final_point(ring), first_point(ring)));
     let turned = signed_area(open) < 0.0;
     put_ring(open, turned, out);
-    OutlineAnswer::Made(Outline {
-        count: count,
-        dropped: dropped,
+    Ok(Outline {
+        count,
+        dropped,
         gap: widest,
         closed: widest <= 0.1,
-        turned: turned,
+        turned,
     })
 }
 
 // ---- the call
 
-// Which list is past its limit, if any is.
-fn outline_limits(segments: &[u32], points: &[f32]) -> Check
-    ensures { found result ≡ outline_limits segments.now points.now }
-{
-    let after = oversize_if(
-        3 * MAX_BOUNDARY_POINTS < points.len(),
-        MAX_BOUNDARY_POINTS,
-        Check::Fine,
-    );
-    oversize_if(2 * MAX_SEGMENTS < segments.len(), MAX_SEGMENTS, after)
-}
+#[tactic(auto, unfolding(crate::specs::Refusal::found, crate::specs::Refusal::refuse, crate::specs::Refusal::number_of, crate::specs::Refusal::place_of, crate::specs::Refusal::or_else, crate::specs::Lists::longer, crate::specs::Lists::uneven, crate::specs::Outline::outline_limits, crate::specs::Outline::outline_ragged, crate::specs::Outline::outline_fault))]
+impl<'a> Boundary<'a> {
+    // The segments, of two words each.
+    fn records(self) -> Records<'a, 2>
+        ensures { result.words.now ≡ self.entry.segments.now }
+    {
+        Records {
+            words: self.segments,
+        }
+    }
 
-// Which list is ragged, if any is.
-fn outline_ragged(segments: &[u32], points: &[f32]) -> Check
-    requires { length segments.now ≤ 2 * max_segments }
-    ensures { found result ≡ outline_ragged segments.now points.now }
-{
-    let bad = any_bad(segments, 2, 0, points.len() / 3, segments.len() / 2);
-    let after = ragged_if(points.len() % 3 != 0, 1, Check::Fine);
-    let after = ragged_if(bad, 0, after);
-    ragged_if(segments.len() % 2 != 0, 0, after)
-}
+    // Which list is past its limit, if any is.
+    fn limits(self) -> Result<(), Refusal>
+        ensures { found result ≡ outline_limits self.entry.segments.now self.entry.points.now }
+    {
+        refuse_if(
+            2 * MAX_SEGMENTS < self.segments.len(),
+            Refusal::Oversize(MAX_SEGMENTS),
+        )?;
+        refuse_if(
+            3 * MAX_BOUNDARY_POINTS < self.points.len(),
+            Refusal::Oversize(MAX_BOUNDARY_POINTS),
+        )
+    }
 
-// Why the lists are turned back, if they are.
-fn outline_fault(segments: &[u32], points: &[f32]) -> Check
-    ensures { found result ≡ outline_fault segments.now points.now }
-{
-    match outline_limits(segments, points) {
-        Check::Faulty(r) => Check::Faulty(r),
-        Check::Fine => outline_ragged(segments, points),
+    // Which list is ragged, if any is.
+    fn ragged(self) -> Result<(), Refusal>
+        ensures { found result ≡ outline_ragged self.entry.segments.now self.entry.points.now }
+    {
+        refuse_if(self.segments.len() % 2 != 0, Refusal::Ragged(0))?;
+        let bad = self.records().any_bad(0, self.points.len() / 3);
+        refuse_if(bad, Refusal::Ragged(0))?;
+        refuse_if(self.points.len() % 3 != 0, Refusal::Ragged(1))
+    }
+
+    // The boundary as one that is checked, or why its lists are turned back.
+    fn check(self) -> Result<Checked<'a>, Refusal>
+        ensures { MatchResult result
+            (λ c. (c.segments.words.now ≡ self.entry.segments.now) × (c.points.now ≡ self.entry.points.now))
+            (λ r. found (Err r) ≡ outline_fault self.entry.segments.now self.entry.points.now) }
+    {
+        self.limits()?;
+        self.ragged()?;
+        Ok(Checked {
+            segments: self.records(),
+            points: self.points,
+        })
     }
 }
 
-// The outline of lists that are sound, joined in the memory `line`.
-fn ring_in(segments: &[u32], points: &[f32], line: &mut [f32], out: &mut [f32]) -> OutlineAnswer
-    requires points_value { outline_fault segments.now points.now ≡ fine }
-    requires points_in_bounds { length points.now ≤ length line.old }
-    ensures { Outlines segments.now points.now out.old out.new result }
+// The outline of a boundary, joined in the memory `line`.
+fn ring_in(boundary: Checked, line: &mut [f32], out: &mut [f32]) -> Result<Outline, Refusal>
+    requires { length boundary.points.now ≤ length line.old }
+    ensures { Outlines boundary.entry.segments.words.now boundary.entry.points.now out.old out.new result }
 {
-    let j = join(segments, points, line);
-    let ring = j.ring;
-    let size = 3 * ring.count;
-    let dropped = segments.len() / 2 - j.segments;
-    let gap = j.gap;
-    finish(&line[..size], gap.root, dropped, out)
+    let j = boundary.join(line);
+    let size = 3 * j.ring.count;
+    let dropped = boundary.segments.len() - j.segments;
+    finish(&line[..size], j.gap.root, dropped, out)
 }
 
 // The same in memory for as many points as may come, and in memory for a few: to clear the whole takes
 // longer than to join a few points.
-fn ring_of_many(segments: &[u32], points: &[f32], out: &mut [f32]) -> OutlineAnswer
-    requires { outline_fault segments.now points.now ≡ fine }
-    ensures { Outlines segments.now points.now out.old out.new result }
+#[tactic(auto, unfolding(crate::specs::Refusal::refuse, crate::specs::Refusal::or_else, crate::specs::Lists::longer, crate::specs::Outline::outline_limits, crate::specs::Outline::outline_ragged, crate::specs::Outline::outline_fault))]
+fn ring_of_many(boundary: Checked, out: &mut [f32]) -> Result<Outline, Refusal>
+    ensures { Outlines boundary.entry.segments.words.now boundary.entry.points.now out.old out.new result }
 {
     let mut line = [0.0f32; 3 * MAX_BOUNDARY_POINTS];
-    ring_in(segments, points, &mut line, out)
+    ring_in(boundary, &mut line, out)
 }
 
 // How many coordinates are few: those of 256 points.
 const FEW: usize = 768;
 
-fn ring_of_few(segments: &[u32], points: &[f32], out: &mut [f32]) -> OutlineAnswer
-    requires points_value { outline_fault segments.now points.now ≡ fine }
-    requires points_len_bound { length points.now ≤ 768 }
-    ensures { Outlines segments.now points.now out.old out.new result }
+fn ring_of_few(boundary: Checked, out: &mut [f32]) -> Result<Outline, Refusal>
+    requires { length boundary.points.now ≤ 768 }
+    ensures { Outlines boundary.entry.segments.words.now boundary.entry.points.now out.old out.new result }
 {
     let mut line = [0.0f32; FEW];
-    ring_in(segments, points, &mut line, out)
+    ring_in(boundary, &mut line, out)
 }
 
-// The ring of the boundary whose segments are runs of the list of points. Its coordinates are left at
-// the front of `out`.
-pub fn ring(segments: &[u32], points: &[f32], out: &mut [f32]) -> OutlineAnswer
-    ensures { Outlines segments.now points.now out.old out.new result }
+// The ring of a boundary. Its coordinates are left at the front of `out`.
+#[tactic(auto, unfolding(crate::specs::Refusal::found))]
+pub fn ring(boundary: Boundary, out: &mut [f32]) -> Result<Outline, Refusal>
+    ensures { Outlines boundary.entry.segments.now boundary.entry.points.now out.old out.new result }
 {
-    let fault = outline_fault(segments, points);
-    if let Check::Faulty(r) = fault {
-        return OutlineAnswer::Refused(r);
+    let checked = boundary.check()?;
+    if checked.points.len() <= FEW {
+        return ring_of_few(checked, out);
     }
-    if points.len() <= FEW {
-        return ring_of_few(segments, points, out);
-    }
-    ring_of_many(segments, points, out)
+    ring_of_many(checked, out)
 }

@@ -1,13 +1,14 @@
 // Lists as they are lent: flat lists of coordinates and banks, lists of records, and the runs that
 // records have of other lists. The accessors take any place, so that what stands above them needs no
 // proof about indices; the checks of lists stand here alone.
-ghost use Rattle.std.specs.Prelude.{◌≡◌, ◌+◌, ◌-◌, ◌*◌, ◌/◌, ◌%◌, ◌^◌, ◌<◌, min, not, ◌&&◌, ◌||◌, length, take, slice_index, slice_index_or, slice_range};
+#![tactic(auto, using(crate::proofs::Laws::Lists::word_inside, crate::proofs::Laws::Gather::any_next, crate::proofs::Laws::Lists::get_d_any, crate::proofs::Laws::Lists::part_cut, crate::proofs::Laws::Lists::last_end_lem, crate::proofs::Laws::Lists::without_difference), unfolding(crate::specs::Refusal::found, crate::specs::Refusal::refuse, crate::specs::Refusal::number_of, crate::specs::Refusal::place_of, crate::specs::Refusal::or_else, crate::specs::Gather::any, crate::specs::Lists::word_of, crate::specs::Lists::last_end, crate::specs::Lists::run_bad, crate::specs::Lists::run_long, crate::specs::Lists::point_at, crate::specs::Lists::vector_at, crate::specs::Lists::longer, crate::specs::Lists::uneven, crate::specs::Lists::mesh_limits, crate::specs::Lists::mesh_ragged, crate::specs::Lists::mesh_fault, vector::specs::Coords::zero_vector))]
+
+ghost use Rattle.std.specs.Prelude.{◌≡◌, ◌+◌, ◌-◌, ◌*◌, ◌/◌, ◌%◌, ◌^◌, ◌<◌, min, not, ◌&&◌, ◌||◌, length, slice_index, slice_index_or, slice_range};
 ghost use Rattle.shape.specs.Gather.{any};
 ghost use Rattle.shape.specs.Refusal.{found};
-ghost use Rattle.shape.specs.Lists.{span_words, vertices_word, indices_word, word_of, last_end, run_bad, run_long, point_at, vector_at, mesh_lists, mesh_limits, mesh_ragged, mesh_fault};
+ghost use Rattle.shape.specs.Lists.{span_words, vertices_word, indices_word, word_of, last_end, run_bad, run_long, point_at, vector_at, lists_of, mesh_limits, mesh_ragged, mesh_fault};
 
-use crate::refusal::{Check, oversize_if, ragged_if};
-use rounding::bits::wide;
+use crate::refusal::{Refusal, refuse_if};
 use vector::coords::{Point, Vector};
 
 // ---- document 01's limits: `max_lane_points` and so on in the definitions
@@ -51,20 +52,6 @@ pub const SPAN_INDICES: usize = 3;
 
 pub const SPAN_INDICES_END: usize = 4;
 
-// ---- tests taken together, with no branch between them
-
-pub(crate) fn either(a: bool, b: bool) -> bool
-    ensures { result ≡ (a || b) }
-{
-    if a { true } else { b }
-}
-
-pub fn both(a: bool, b: bool) -> bool
-    ensures { result ≡ (a && b) }
-{
-    if a { b } else { false }
-}
-
 // ---- elements
 
 // The word at a place of a list, 0 past its end.
@@ -96,11 +83,7 @@ pub fn point_at(xs: &[f32], i: usize) -> Point
     if i < n {
         return whole_point(xs, i);
     }
-    Point {
-        x: 0.0,
-        y: 0.0,
-        z: 0.0,
-    }
+    Point::ORIGIN
 }
 
 // Vector i of a list of coordinates; zero where the list does not hold it whole.
@@ -127,200 +110,179 @@ pub fn single_or(xs: &[f32], i: usize, other: f32) -> f32
 
 // ---- parts
 
-// The lesser of two places.
-pub fn least(a: usize, b: usize) -> usize
-    ensures { result ≡ min a b }
-{
-    if a < b { a } else { b }
-}
-
 // The part of a list from a to e, as far as there is one.
-pub fn part(xs: &[f32], a: usize, e: usize) -> &[f32]
+pub fn part<T>(xs: &[T], a: usize, e: usize) -> &[T]
     ensures { result.now ≡ slice_range xs.now a e }
 {
-    let to = least(e, xs.len());
-    let from = least(a, to);
+    let to = e.min(xs.len());
+    let from = a.min(to);
     &xs[from..to]
 }
 
 // ---- records and their runs
 
-// Word j of record k, in a list of records of `width` words, for numbers whose product fits.
-fn near_word(ws: &[u32], width: usize, k: usize, j: usize) -> usize
-    requires { (width < 16) × (k < 2 ^ 58) × (j < 16) }
-    ensures { (result ≡ word_of width ws.now k j) × (result < 2 ^ 32) }
-{
-    word_at(ws, width * k + j)
+// Records of WIDTH words as they are lent, and what part of one may follow them. A run's start is word `a`
+// of its record and its end the word after it.
+#[derive(Clone, Copy)]
+pub struct Records<'a, const WIDTH: usize> {
+    pub words: &'a [u32],
 }
 
-// The same for any numbers: a division tells, before anything is multiplied, what lies past the list.
-fn far_word(ws: &[u32], width: usize, k: usize, j: usize) -> usize
-    ensures { (result ≡ word_of width ws.now k j) × (result < 2 ^ 32) }
-{
-    let n = ws.len();
-    if n <= j {
-        return 0;
+impl<const WIDTH: usize> Records<'_, WIDTH> {
+    // How many whole records there are.
+    pub(crate) fn len(self) -> usize
+        requires { 0 < WIDTH }
+        ensures { result ≡ length self.entry.words.now / WIDTH }
+    {
+        self.words.len() / WIDTH
     }
-    if k == 0 {
-        return word_at(ws, j);
-    }
-    if n / k < width {
-        return 0;
-    }
-    word_at(ws, width * k + j)
-}
 
-// Word j of record k, in a list of records of `width` words, 0 past its end. Only numbers far past any
-// list in use cost a division.
-pub fn record_word(ws: &[u32], width: usize, k: usize, j: usize) -> usize
-    ensures { (result ≡ word_of width ws.now k j) × (result < 2 ^ 32) }
-{
-    if width < 16 {
-        if k < 0x400_0000_0000_0000 {
-            if j < 16 {
-                return near_word(ws, width, k, j);
-            }
+    // Word j of record k, 0 past the list's end. A place past every number is past the list too.
+    pub fn word(self, k: usize, j: usize) -> usize
+        ensures { (result ≡ word_of WIDTH self.entry.words.now k j) × (result < 2 ^ 32) }
+    {
+        word_at(self.words, WIDTH.saturating_mul(k).saturating_add(j))
+    }
+
+    // Word j of a whole record. Nothing is tested.
+    pub(crate) fn whole_word(self, k: usize, j: usize) -> usize
+        requires { (k < length self.words.now / WIDTH) × (j < WIDTH) }
+        ensures { (result ≡ word_of WIDTH self.entry.words.now k j) × (result < 2 ^ 32) }
+    {
+        self.words[WIDTH * k + j] as usize
+    }
+
+    // Where the run of the record before k ended, 0 for the first record.
+    fn last_end(self, a: usize, k: usize) -> usize
+        requires { (k < length self.words.now / WIDTH) × (a + 1 < WIDTH) }
+        ensures { result ≡ last_end WIDTH a self.entry.words.now k }
+    {
+        if k == 0 {
+            return 0;
         }
+        self.whole_word(k - 1, a + 1)
     }
-    far_word(ws, width, k, j)
-}
 
-// Where the run of the record before k ended, 0 for the first record. A run's start is word `a` of its
-// record and its end the word after it.
-fn last_end(ws: &[u32], width: usize, a: usize, k: usize) -> usize
-    requires { (width < 16) × (k < 2 ^ 58) × (a < 15) }
-    ensures { result ≡ last_end width a ws.now k }
-{
-    if k == 0 {
-        return 0;
+    // Is the run of record k ragged, for a list of n elements?
+    fn run_bad(self, a: usize, n: usize, k: usize) -> bool
+        requires { (k < length self.words.now / WIDTH) × (a + 1 < WIDTH) }
+        ensures { result ≡ run_bad WIDTH a self.entry.words.now n k }
+    {
+        let start = self.whole_word(k, a);
+        let end = self.whole_word(k, a + 1);
+        (end < start) | (start < self.last_end(a, k)) | (n < end)
     }
-    near_word(ws, width, k - 1, a + 1)
-}
 
-// Is the run of record k ragged, for a list of n elements?
-fn run_bad(ws: &[u32], width: usize, a: usize, n: usize, k: usize) -> bool
-    requires { (width < 16) × (k < 2 ^ 58) × (a < 15) }
-    ensures { result ≡ run_bad width a ws.now n k }
-{
-    let start = near_word(ws, width, k, a);
-    let end = near_word(ws, width, k, a + 1);
-    let last = last_end(ws, width, a, k);
-    either(either(end < start, start < last), n < end)
-}
-
-// Is the run of record k longer than the limit?
-fn run_long(ws: &[u32], width: usize, a: usize, limit: usize, k: usize) -> bool
-    requires { (width < 16) × (k < 2 ^ 58) × (a < 15) × (limit < 2 ^ 32) }
-    ensures { result ≡ run_long width a ws.now limit k }
-{
-    let start = near_word(ws, width, k, a);
-    let end = near_word(ws, width, k, a + 1);
-    start + limit < end
-}
-
-// Is any of the first m runs ragged?
-pub(crate) fn any_bad(ws: &[u32], width: usize, a: usize, n: usize, m: usize) -> bool
-    requires { (width < 16) × (a < 15) × (m < 2 ^ 58) }
-    ensures { result ≡ any (run_bad width a ws.now n) m }
-{
-    let mut found = false;
-    let mut k: usize = 0;
-    while k < m {
-        found = either(found, run_bad(ws, width, a, n, k));
-        k += 1;
+    // Is the run of record k longer than the limit?
+    fn run_long(self, a: usize, limit: usize, k: usize) -> bool
+        requires { (k < length self.words.now / WIDTH) × (a + 1 < WIDTH) × (limit < 2 ^ 32) }
+        ensures { result ≡ run_long WIDTH a self.entry.words.now limit k }
+    {
+        self.whole_word(k, a) + limit < self.whole_word(k, a + 1)
     }
-    found
-}
 
-// Is any of the first m runs longer than the limit?
-pub(crate) fn any_long(ws: &[u32], width: usize, a: usize, limit: usize, m: usize) -> bool
-    requires { (width < 16) × (a < 15) × (limit < 2 ^ 32) × (m < 2 ^ 58) }
-    ensures { result ≡ any (run_long width a ws.now limit) m }
-{
-    let mut found = false;
-    let mut k: usize = 0;
-    while k < m {
-        found = either(found, run_long(ws, width, a, limit, k));
-        k += 1;
+    // Is any run ragged?
+    pub(crate) fn any_bad(self, a: usize, n: usize) -> bool
+        requires { a + 1 < WIDTH }
+        ensures { let ws = self.entry.words.now in result ≡ any (run_bad WIDTH a ws n) (length ws / WIDTH) }
+    {
+        let mut found = false;
+        for k in 0..self.len() {
+            found |= self.run_bad(a, n, k);
+        }
+        found
     }
-    found
+
+    // Is any run longer than the limit?
+    pub(crate) fn any_long(self, a: usize, limit: usize) -> bool
+        requires { (a + 1 < WIDTH) × (limit < 2 ^ 32) }
+        ensures { let ws = self.entry.words.now in result ≡ any (run_long WIDTH a ws limit) (length ws / WIDTH) }
+    {
+        let mut found = false;
+        for k in 0..self.len() {
+            found |= self.run_long(a, limit, k);
+        }
+        found
+    }
 }
 
 // ---- meshes
 
+// A mesh as it is lent: the coordinates of its vertices and of its normals in threes, the vertex numbers
+// of its triangles in threes, and the lanes' spans.
+#[derive(Clone, Copy)]
+pub struct Mesh<'a> {
+    pub vertices: &'a [f32],
+    pub normals: &'a [f32],
+    pub indices: &'a [u32],
+    pub spans: &'a [u32],
+}
+
 // Do the runs of the spans rise, each start from the last end and each end from its start, and do they
 // keep within n vertices and k indices? The single lookup asks this at every point, so in one pass that
-// is left where it fails.
+// is left where it fails, and apart from its caller, whose many values would push the loop's out of registers.
+#[inline(never)]
 fn runs_rise(spans: &[u32], n: usize, k: usize) -> bool
     ensures { let ss = spans.now in let m = length ss / span_words in result ≡ not (any (run_bad span_words vertices_word ss n) m || any (run_bad span_words indices_word ss k) m) }
 {
-    let m = spans.len() / SPAN_WORDS;
     let mut vertex: usize = 0;
     let mut index: usize = 0;
-    let mut i: usize = 0;
-    while i < m {
+    for i in 0..spans.len() / SPAN_WORDS {
         let at = SPAN_WORDS * i;
-        let a = wide(spans[at + SPAN_VERTICES]);
-        let b = wide(spans[at + SPAN_VERTICES_END]);
-        let c = wide(spans[at + SPAN_INDICES]);
-        let d = wide(spans[at + SPAN_INDICES_END]);
-        if a < vertex {
-            return false;
-        }
-        if b < a {
-            return false;
-        }
-        if c < index {
-            return false;
-        }
-        if d < c {
+        let a = spans[at + SPAN_VERTICES] as usize;
+        let b = spans[at + SPAN_VERTICES_END] as usize;
+        let c = spans[at + SPAN_INDICES] as usize;
+        let d = spans[at + SPAN_INDICES_END] as usize;
+        if a < vertex || b < a || c < index || d < c {
             return false;
         }
         vertex = b;
         index = d;
-        i += 1;
     }
-    if n < vertex {
-        return false;
+    vertex <= n && index <= k
+}
+
+impl Mesh<'_> {
+    // Which list is past its limit, if any is.
+    pub fn limits(self) -> Result<(), Refusal>
+        ensures { found result ≡ mesh_limits (lists_of self.entry) }
+    {
+        refuse_if(
+            3 * MAX_VERTICES < self.vertices.len(),
+            Refusal::Oversize(MAX_VERTICES),
+        )?;
+        refuse_if(
+            3 * MAX_VERTICES < self.normals.len(),
+            Refusal::Oversize(MAX_VERTICES),
+        )?;
+        refuse_if(
+            MAX_INDICES < self.indices.len(),
+            Refusal::Oversize(MAX_INDICES),
+        )?;
+        refuse_if(
+            SPAN_WORDS * MAX_SPANS < self.spans.len(),
+            Refusal::Oversize(MAX_SPANS),
+        )
     }
-    index <= k
-}
 
-// Which list of a mesh is past its limit, if any is.
-pub fn mesh_limits(vertices: &[f32], normals: &[f32], indices: &[u32], spans: &[u32]) -> Check
-    ensures { let m = mesh_lists vertices.now normals.now indices.now spans.now in found result ≡ mesh_limits m }
-{
-    let after = oversize_if(SPAN_WORDS * MAX_SPANS < spans.len(), MAX_SPANS, Check::Fine);
-    let after = oversize_if(MAX_INDICES < indices.len(), MAX_INDICES, after);
-    let after = oversize_if(3 * MAX_VERTICES < normals.len(), MAX_VERTICES, after);
-    oversize_if(3 * MAX_VERTICES < vertices.len(), MAX_VERTICES, after)
-}
+    // Which list is ragged, if any is, where the mesh's lists stand in the call from `first` on.
+    pub fn ragged(self, first: u32) -> Result<(), Refusal>
+        ensures { found result ≡ mesh_ragged first (lists_of self.entry) }
+    {
+        let p = first as usize;
+        refuse_if(self.vertices.len() % 3 != 0, Refusal::Ragged(p))?;
+        refuse_if(self.normals.len() % 3 != 0, Refusal::Ragged(p + 1))?;
+        refuse_if(self.spans.len() % SPAN_WORDS != 0, Refusal::Ragged(p + 3))?;
+        let rise = runs_rise(self.spans, self.vertices.len() / 3, self.indices.len());
+        refuse_if(!rise, Refusal::Ragged(p + 3))
+    }
 
-// Which list of a mesh is ragged, if any is, where the mesh's lists stand in the call from `first` on.
-pub fn mesh_ragged(
-    first: u32,
-    vertices: &[f32],
-    normals: &[f32],
-    indices: &[u32],
-    spans: &[u32],
-) -> Check
-    ensures { let m = mesh_lists vertices.now normals.now indices.now spans.now in found result ≡ mesh_ragged first m }
-{
-    let p = wide(first);
-    let rise = runs_rise(spans, vertices.len() / 3, indices.len());
-    let after = ragged_if(!rise, p + 3, Check::Fine);
-    let after = ragged_if(spans.len() % SPAN_WORDS != 0, p + 3, after);
-    let after = ragged_if(normals.len() % 3 != 0, p + 1, after);
-    ragged_if(vertices.len() % 3 != 0, p, after)
-}
-
-// Why the four lists of a mesh are turned back, if they are. Every call that takes a mesh asks this; a list
-// past its limit is not read through.
-pub fn mesh_fault(vertices: &[f32], normals: &[f32], indices: &[u32], spans: &[u32]) -> Check
-    ensures { let m = mesh_lists vertices.now normals.now indices.now spans.now in found result ≡ mesh_fault m }
-{
-    match mesh_limits(vertices, normals, indices, spans) {
-        Check::Faulty(r) => Check::Faulty(r),
-        Check::Fine => mesh_ragged(0, vertices, normals, indices, spans),
+    // Why the lists are turned back, if they are. Every call that takes a mesh asks this; a list past its
+    // limit is not read through.
+    pub fn check(self) -> Result<(), Refusal>
+        ensures { found result ≡ mesh_fault (lists_of self.entry) }
+    {
+        self.limits()?;
+        self.ragged(0)
     }
 }

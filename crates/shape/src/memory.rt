@@ -1,12 +1,13 @@
 // Lent memory: whether a mesh has room in it, and what is put into it.
-ghost use Rattle.std.specs.Prelude.{◌≡◌, ◌+◌, ◌^◌, ◌<◌, ◌≤◌, [], ◌∷◌, length};
-ghost use Rattle.std.proofs.lemmas.List.Edits.{sets};
+#![tactic(auto, unfolding(crate::specs::Refusal::found, crate::specs::Refusal::refuse, crate::specs::Refusal::number_of, crate::specs::Refusal::place_of, crate::specs::Refusal::or_else, crate::specs::MeshMemory::result_limits, crate::specs::MeshMemory::result_short, crate::specs::MeshMemory::room_fault))]
+
+ghost use Rattle.std.specs.Prelude.{◌≡◌, ◌+◌, ◌<◌, ◌≤◌, length};
 ghost use Rattle.shape.specs.Memory.{Put};
 ghost use Rattle.shape.specs.Refusal.{found};
 ghost use Rattle.shape.specs.MeshMemory.{result_limits, result_short, room_fault};
 
 use crate::lists::{MAX_INDICES, MAX_SPANS, MAX_VERTICES, SPAN_WORDS};
-use crate::refusal::{Check, oversize_if, short_if};
+use crate::refusal::{Refusal, refuse_if};
 
 // How long the lists of a mesh are, in their elements.
 #[derive(Clone, Copy)]
@@ -18,51 +19,58 @@ pub(crate) struct Lengths {
 }
 
 // A result past its limits.
-fn result_limits(made: Lengths) -> Check
+fn result_limits(made: Lengths) -> Result<(), Refusal>
     ensures { found result ≡ result_limits made }
 {
-    let spans = oversize_if(SPAN_WORDS * MAX_SPANS < made.spans, MAX_SPANS, Check::Fine);
-    let indices = oversize_if(MAX_INDICES < made.indices, MAX_INDICES, spans);
-    let normals = oversize_if(3 * MAX_VERTICES < made.normals, MAX_VERTICES, indices);
-    oversize_if(3 * MAX_VERTICES < made.vertices, MAX_VERTICES, normals)
+    refuse_if(
+        3 * MAX_VERTICES < made.vertices,
+        Refusal::Oversize(MAX_VERTICES),
+    )?;
+    refuse_if(
+        3 * MAX_VERTICES < made.normals,
+        Refusal::Oversize(MAX_VERTICES),
+    )?;
+    refuse_if(MAX_INDICES < made.indices, Refusal::Oversize(MAX_INDICES))?;
+    refuse_if(
+        SPAN_WORDS * MAX_SPANS < made.spans,
+        Refusal::Oversize(MAX_SPANS),
+    )
 }
 
 // Outputs too short for it.
-fn result_short(made: Lengths, lent: Lengths) -> Check
+fn result_short(made: Lengths, lent: Lengths) -> Result<(), Refusal>
     ensures { found result ≡ result_short made lent }
 {
-    let spans = short_if(lent.spans < made.spans, made.spans, Check::Fine);
-    let indices = short_if(lent.indices < made.indices, made.indices, spans);
-    let normals = short_if(lent.normals < made.normals, made.normals, indices);
-    short_if(lent.vertices < made.vertices, made.vertices, normals)
+    refuse_if(
+        lent.vertices < made.vertices,
+        Refusal::ShortOutput(made.vertices),
+    )?;
+    refuse_if(
+        lent.normals < made.normals,
+        Refusal::ShortOutput(made.normals),
+    )?;
+    refuse_if(
+        lent.indices < made.indices,
+        Refusal::ShortOutput(made.indices),
+    )?;
+    refuse_if(lent.spans < made.spans, Refusal::ShortOutput(made.spans))
 }
 
 // Why a mesh is not written into lent lists, if it is not. Every call that makes a mesh asks this.
-pub(crate) fn room_fault(made: Lengths, lent: Lengths) -> Check
+pub(crate) fn room_fault(made: Lengths, lent: Lengths) -> Result<(), Refusal>
     ensures { found result ≡ room_fault made lent }
 {
-    let limits = result_limits(made);
-    match limits {
-        Check::Faulty(r) => Check::Faulty(r),
-        Check::Fine => result_short(made, lent),
+    result_limits(made)?;
+    result_short(made, lent)
+}
+
+// The elements of an array into the memory, from `at` on, and where they end.
+pub(crate) fn put<T: Copy, const N: usize>(out: &mut [T], at: usize, xs: [T; N]) -> usize
+    requires { at + N ≤ length out.old }
+    ensures { Put out.old out.new at xs result }
+{
+    for i in 0..N {
+        out[at + i] = xs[i];
     }
-}
-
-// One word into the memory.
-pub(crate) fn put_word(out: &mut [u32], at: usize, v: usize)
-    requires { (at < length out.old) × (v < 2 ^ 32) }
-    ensures { out.new ≡ sets out.old at (v ∷ []) }
-{
-    out[at] = v as u32;
-}
-
-// Three singles into the memory.
-pub(crate) fn put_singles(out: &mut [f32], at: usize, x: f32, y: f32, z: f32) -> usize
-    requires { at + 3 ≤ length out.old }
-    ensures { Put out.old out.new at (x ∷ y ∷ z ∷ []) result }
-{
-    out[at] = x;
-    out[at + 1] = y;
-    out[at + 2] = z;
-    at + 3
+    at + N
 }

@@ -1,17 +1,18 @@
 // The strips of lanes, merged into one mesh (`RoadNetwork::surface_mesh`).
-ghost use Rattle.std.specs.Prelude.{◌≡◌, ℕ, ◌-◌, ◌^◌, ◌<◌, ◌≤◌, false, List, length, Float};
-ghost use Rattle.vector.specs.Single.{single};
-ghost use Rattle.shape.specs.Gather.{any};
-ghost use Rattle.shape.specs.Refusal.{found, fine};
-ghost use Rattle.shape.specs.Lists.{max_lane_points, max_lanes, word_of, run_long, mesh_lists};
-ghost use Rattle.shape.specs.MeshMemory.{lengths_of, room_fault, leaves_mesh};
-ghost use Rattle.shape.specs.SurfaceMesh.{lane_words, id_word, points_word, width_word};
-ghost use Rattle.shape.specs.SurfaceMesh.{given, lane_run, lane_at, lane_limits, runs_ragged, lane_ragged, input_fault, mesh_of, counts_of, read_mesh, call_fault, answer_of};
-ghost use Rattle.shape.specs.MeshSteps.{lengths_at, Grown, Topped, Enough, Sizes, Room, Wrote, Written, Fitting};
+#![tactic(auto, unfolding(crate::specs::Refusal::found, crate::specs::Refusal::refuse, crate::specs::Refusal::number_of, crate::specs::Refusal::place_of, crate::specs::Refusal::or_else, crate::specs::Lists::longer, crate::specs::Lists::uneven, crate::specs::SurfaceMesh::lane_limits, crate::specs::SurfaceMesh::runs_ragged, crate::specs::SurfaceMesh::lane_ragged, crate::specs::SurfaceMesh::input_fault, crate::specs::SurfaceMesh::counts_of))]
 
-use crate::lists::{MAX_LANE_POINTS, MAX_LANES, SPAN_WORDS, any_bad, any_long, part, record_word};
+ghost use Rattle.std.specs.Prelude.{◌≡◌, ◌/◌, ◌^◌, ◌<◌, false, length};
+ghost use Rattle.shape.specs.Refusal.{found, told, fine};
+ghost use Rattle.shape.specs.Lists.{max_lane_points, word_of, run_long, mesh_lists};
+ghost use Rattle.shape.specs.MeshMemory.{lengths_of, room_fault, leaves_mesh};
+ghost use Rattle.shape.specs.Strip.{lane_of};
+ghost use Rattle.shape.specs.SurfaceMesh.{lane_words, points_word, given_of, lanes_of, lane_run, lane_at, lane_limits, runs_ragged, lane_ragged, input_fault, mesh_of, counts_of, call_fault, answer_of};
+ghost use Rattle.shape.specs.MeshSteps.{lengths_at, Topped, Enough, Sizes, Written, Fitting};
+
+use crate::lists::{MAX_LANE_POINTS, MAX_LANES, Records, SPAN_WORDS, part};
 use crate::memory::{Lengths, room_fault};
-use crate::refusal::{Check, Refusal, oversize_if, ragged_if};
+use crate::refusal::{Refusal, refuse_if};
+use crate::rib::Lane;
 use crate::strip::{At, put_strip, size_strip};
 use rounding::bits::from_bits32;
 
@@ -36,113 +37,89 @@ const LANE_WIDTH: usize = 9;
 
 // ---- all lanes
 
-// Lane k's run of a list whose elements are of u numbers. Word a of the lane is its start.
-fn lane_run<'a, 'b>(u: usize, xs: &'a [f32], lanes: &'b [u32], a: usize, k: usize) -> &'a [f32]
-    requires { (k < 2 ^ 58) × (a < 8) × (u < 4) }
-    ensures { result.now ≡ lane_run u xs.now lanes.now a k }
-{
-    let s = u * record_word(lanes, LANE_WORDS, k, a);
-    let e = u * record_word(lanes, LANE_WORDS, k, a + 1);
-    part(xs, s, e)
+// Lanes as they are lent: the coordinates of their points and of their tangents in threes, their widths,
+// their banks in twos as sine and cosine, and a record of ten words for each lane.
+#[derive(Clone, Copy)]
+pub struct Lanes<'a> {
+    pub points: &'a [f32],
+    pub tangents: &'a [f32],
+    pub widths: &'a [f32],
+    pub banks: &'a [f32],
+    pub records: &'a [u32],
 }
 
-fn default_width(lanes: &[u32], k: usize) -> f32
-    requires { k < 2 ^ 58 }
-    ensures { result ≡ single (word_of lane_words lanes.now k width_word) }
-{
-    from_bits32(record_word(lanes, LANE_WORDS, k, LANE_WIDTH) as u32)
+impl<'a> Lanes<'a> {
+    // The records, of ten words each.
+    fn words(self) -> Records<'a, LANE_WORDS>
+        ensures { result.words.now ≡ self.entry.records.now }
+    {
+        Records {
+            words: self.records,
+        }
+    }
+
+    // Word j of lane k.
+    fn word(self, k: usize, j: usize) -> usize
+        ensures { (result ≡ word_of lane_words self.entry.records.now k j) × (result < 2 ^ 32) }
+    {
+        self.words().word(k, j)
+    }
+
+    // How many there are.
+    fn count(self) -> usize
+        ensures { result ≡ lanes_of (given_of self.entry) }
+    {
+        self.words().len()
+    }
+
+    // Lane k's run of a list whose elements are of u numbers. Word a of the lane is its start.
+    #[tactic(auto, unfolding(crate::specs::SurfaceMesh::lane_run, crate::specs::Lists::run_of))]
+    fn run(self, u: usize, xs: &'a [f32], a: usize, k: usize) -> &'a [f32]
+        requires { (a < 8) × (u < 4) }
+        ensures { result.now ≡ lane_run u xs.now self.entry.records.now a k }
+    {
+        let s = u * self.word(k, a);
+        let e = u * self.word(k, a + 1);
+        part(xs, s, e)
+    }
+
+    // Lane k.
+    #[tactic(auto, unfolding(crate::specs::SurfaceMesh::lane_at))]
+    fn lane(self, k: usize) -> Lane<'a>
+        ensures { lane_of result ≡ lane_at (given_of self.entry) k }
+    {
+        Lane {
+            points: self.run(3, self.points, LANE_POINTS, k),
+            tangents: self.run(3, self.tangents, LANE_TANGENTS, k),
+            widths: self.run(1, self.widths, LANE_WIDTHS, k),
+            banks: self.run(2, self.banks, LANE_BANKS, k),
+            width: from_bits32(self.word(k, LANE_WIDTH) as u32),
+        }
+    }
 }
 
-// The sizes with lane k.
-fn size_lane(
-    points: &[f32],
-    tangents: &[f32],
-    widths: &[f32],
-    banks: &[f32],
-    lanes: &[u32],
-    k: usize,
-    kept: &mut [u32],
-    at: At,
-) -> At
-    requires { (k < 2 ^ 58) × (run_long lane_words points_word lanes.now max_lane_points k ≡ false) × (length kept.old ≡ max_lane_points)
-        × (at.floats < 2 ^ 60) × (at.index < 2 ^ 60) × (at.word < 2 ^ 60) }
-    ensures { Grown (lane_at (given points.now tangents.now widths.now banks.now lanes.now) k) at result }
-{
-    let p = lane_run(3, points, lanes, LANE_POINTS, k);
-    let t = lane_run(3, tangents, lanes, LANE_TANGENTS, k);
-    let w = lane_run(1, widths, lanes, LANE_WIDTHS, k);
-    let b = lane_run(2, banks, lanes, LANE_BANKS, k);
-    size_strip(p, t, w, b, default_width(lanes, k), kept, at)
-}
-
-// Lane k's strip into the memory, from `at` on.
-fn put_lane(
-    points: &[f32],
-    tangents: &[f32],
-    widths: &[f32],
-    banks: &[f32],
-    lanes: &[u32],
-    k: usize,
-    kept: &mut [u32],
-    at: At,
-    vertices: &mut [f32],
-    normals: &mut [f32],
-    indices: &mut [u32],
-    spans: &mut [u32],
-) -> At
-    requires k_bound { (k < 2 ^ 58) × (run_long lane_words points_word lanes.now max_lane_points k ≡ false) × (length kept.old ≡ max_lane_points) }
-    requires room { Room (lane_at (given points.now tangents.now widths.now banks.now lanes.now) k) at vertices.old normals.old indices.old spans.old }
-    ensures { let g = given points.now tangents.now widths.now banks.now lanes.now in
-        let id = word_of lane_words lanes.now k id_word in
-        Wrote (lane_at g k) id at result
-        vertices.old vertices.new normals.old normals.new
-        indices.old indices.new spans.old spans.new }
-{
-    let p = lane_run(3, points, lanes, LANE_POINTS, k);
-    let t = lane_run(3, tangents, lanes, LANE_TANGENTS, k);
-    let w = lane_run(1, widths, lanes, LANE_WIDTHS, k);
-    let b = lane_run(2, banks, lanes, LANE_BANKS, k);
-    let width = default_width(lanes, k);
-    let id = record_word(lanes, LANE_WORDS, k, LANE_ID);
-    put_strip(
-        p, t, w, b, width, id, kept, at, vertices, normals, indices, spans,
-    )
-}
-
-// The sizes of the mesh of the first n lanes.
-fn totals(
-    points: &[f32],
-    tangents: &[f32],
-    widths: &[f32],
-    banks: &[f32],
-    lanes: &[u32],
-    n: usize,
-) -> At
-    requires { (n ≤ max_lanes) × (any (run_long lane_words points_word lanes.now max_lane_points) n ≡ false) }
-    ensures { Sizes (given points.now tangents.now widths.now banks.now lanes.now) n result }
+// The sizes of the mesh of checked lanes.
+fn totals(lanes: Lanes) -> At
+    requires { input_fault (given_of lanes) ≡ fine }
+    ensures { let g = given_of lanes.entry in Sizes g (lanes_of g) result }
 {
     let mut kept = [0u32; MAX_LANE_POINTS];
-    let mut at = At {
-        floats: 0,
-        index: 0,
-        word: 0,
-    };
-    let mut k: usize = 0;
-    while k < n {
-        at = size_lane(points, tangents, widths, banks, lanes, k, &mut kept, at);
-        k += 1;
+    let mut at = At::START;
+    for k in 0..lanes.count() {
+        at = size_strip(lanes.lane(k), &mut kept, at);
     }
     at
 }
 
 // The most that lane k can add to the sizes: a rib for each point, or two.
-fn most_lane(lanes: &[u32], k: usize, at: At) -> At
-    requires { (k < 2 ^ 58) × (run_long lane_words points_word lanes.now max_lane_points k ≡ false) × (at.floats < 2 ^ 60) × (at.index < 2 ^ 60) × (at.word < 2 ^ 60) }
-    ensures { Topped lanes.now k at result }
+#[tactic(auto, using(crate::proofs::Meshing::not_long))]
+fn most_lane(lanes: Lanes, k: usize, at: At) -> At
+    requires { (run_long lane_words points_word lanes.records.now max_lane_points k ≡ false) × (at.floats < 2 ^ 60) × (at.index < 2 ^ 60) × (at.word < 2 ^ 60) }
+    ensures { Topped lanes.entry.records.now k at result }
 {
-    let s = record_word(lanes, LANE_WORDS, k, LANE_POINTS);
-    let e = record_word(lanes, LANE_WORDS, k, LANE_POINTS_END);
-    let n = at_least_two(s, e);
+    let s = lanes.word(k, LANE_POINTS);
+    let e = lanes.word(k, LANE_POINTS_END);
+    let n = e.saturating_sub(s).max(2);
     At {
         floats: at.floats + 6 * n,
         index: at.index + 6 * (n - 1),
@@ -150,65 +127,47 @@ fn most_lane(lanes: &[u32], k: usize, at: At) -> At
     }
 }
 
-// e - s, or 2 if that is less.
-fn at_least_two(s: usize, e: usize) -> usize
-    requires { (s < 2 ^ 32) × (e < 2 ^ 32) }
-    ensures { (2 ≤ result) × (e - s ≤ result) × ((m : ℕ) → 2 ≤ m → e - s ≤ m → result ≤ m) }
+// The most that checked lanes can give.
+fn most_sizes(lanes: Lanes) -> At
+    requires { input_fault (given_of lanes) ≡ fine }
+    ensures { let g = given_of lanes.entry in Enough g (lanes_of g) result }
 {
-    if s + 2 < e { e - s } else { 2 }
-}
-
-// The most that the first n lanes can give.
-fn most_sizes(lanes: &[u32], n: usize) -> At
-    requires { (n ≤ max_lanes) × (any (run_long lane_words points_word lanes.now max_lane_points) n ≡ false) }
-    ensures { (ps ts ws bs : List Float) → Enough (given ps ts ws bs lanes.now) n result }
-{
-    let mut at = At {
-        floats: 0,
-        index: 0,
-        word: 0,
-    };
-    let mut k: usize = 0;
-    while k < n {
+    let mut at = At::START;
+    for k in 0..lanes.count() {
         at = most_lane(lanes, k, at);
-        k += 1;
     }
     at
 }
 
-// The mesh of the first n lanes into the memory.
+// The mesh of checked lanes into the memory.
 fn put_lanes(
-    points: &[f32],
-    tangents: &[f32],
-    widths: &[f32],
-    banks: &[f32],
-    lanes: &[u32],
-    n: usize,
+    lanes: Lanes,
     vertices: &mut [f32],
     normals: &mut [f32],
     indices: &mut [u32],
     spans: &mut [u32],
 ) -> At
-    requires n_le_max_lanes { (n ≤ max_lanes) × (any (run_long lane_words points_word lanes.now max_lane_points) n ≡ false) }
-    requires fitting { Fitting (given points.now tangents.now widths.now banks.now lanes.now) n vertices.old normals.old indices.old spans.old }
-    ensures { let g = given points.now tangents.now widths.now banks.now lanes.now in
-        Written g n result
+    requires checked { input_fault (given_of lanes) ≡ fine }
+    requires fitting { let g = given_of lanes in Fitting g (lanes_of g) vertices.old normals.old indices.old spans.old }
+    ensures { let g = given_of lanes.entry in
+        Written g (lanes_of g) result
         vertices.old vertices.new normals.old normals.new
         indices.old indices.new spans.old spans.new }
 {
     let mut kept = [0u32; MAX_LANE_POINTS];
-    let mut at = At {
-        floats: 0,
-        index: 0,
-        word: 0,
-    };
-    let mut k: usize = 0;
-    while k < n {
-        at = put_lane(
-            points, tangents, widths, banks, lanes, k, &mut kept, at, vertices, normals, indices,
+    let mut at = At::START;
+    for k in 0..lanes.count() {
+        let id = lanes.word(k, LANE_ID);
+        at = put_strip(
+            lanes.lane(k),
+            id,
+            &mut kept,
+            at,
+            vertices,
+            normals,
+            indices,
             spans,
         );
-        k += 1;
     }
     at
 }
@@ -222,12 +181,6 @@ pub struct MeshCounts {
     pub normals: usize,
     pub indices: usize,
     pub spans: usize,
-}
-
-#[derive(Clone, Copy)]
-pub enum MeshAnswer {
-    Made(MeshCounts),
-    Refused(Refusal),
 }
 
 fn counts(made: Lengths) -> MeshCounts
@@ -253,163 +206,93 @@ fn lengths_at(at: At) -> Lengths
     }
 }
 
-// Runs and lanes past their limits.
-fn lane_limits(lanes: &[u32]) -> Check
-    ensures { found result ≡ lane_limits lanes.now }
-{
-    let n = lanes.len() / LANE_WORDS;
-    let many = oversize_if(LANE_WORDS * MAX_LANES < lanes.len(), MAX_LANES, Check::Fine);
-    let banks = oversize_if(
-        any_long(lanes, LANE_WORDS, LANE_BANKS, MAX_LANE_POINTS, n),
-        MAX_LANE_POINTS,
-        many,
-    );
-    let widths = oversize_if(
-        any_long(lanes, LANE_WORDS, LANE_WIDTHS, MAX_LANE_POINTS, n),
-        MAX_LANE_POINTS,
-        banks,
-    );
-    let tangents = oversize_if(
-        any_long(lanes, LANE_WORDS, LANE_TANGENTS, MAX_LANE_POINTS, n),
-        MAX_LANE_POINTS,
-        widths,
-    );
-    oversize_if(
-        any_long(lanes, LANE_WORDS, LANE_POINTS, MAX_LANE_POINTS, n),
-        MAX_LANE_POINTS,
-        tangents,
-    )
-}
+impl Lanes<'_> {
+    // Runs and lanes past their limits.
+    fn limits(self) -> Result<(), Refusal>
+        ensures { found result ≡ lane_limits self.entry.records.now }
+    {
+        let words = self.words();
+        let long = Refusal::Oversize(MAX_LANE_POINTS);
+        refuse_if(words.any_long(LANE_POINTS, MAX_LANE_POINTS), long)?;
+        refuse_if(words.any_long(LANE_TANGENTS, MAX_LANE_POINTS), long)?;
+        refuse_if(words.any_long(LANE_WIDTHS, MAX_LANE_POINTS), long)?;
+        refuse_if(words.any_long(LANE_BANKS, MAX_LANE_POINTS), long)?;
+        refuse_if(
+            LANE_WORDS * MAX_LANES < self.records.len(),
+            Refusal::Oversize(MAX_LANES),
+        )
+    }
 
-// Runs out of order or past their lists.
-fn runs_ragged(
-    points: &[f32],
-    tangents: &[f32],
-    widths: &[f32],
-    banks: &[f32],
-    lanes: &[u32],
-) -> Check
-    ensures { let g = given points.now tangents.now widths.now banks.now lanes.now in found result ≡ runs_ragged g }
-{
-    let n = lanes.len() / LANE_WORDS;
-    let of_banks = ragged_if(
-        any_bad(lanes, LANE_WORDS, LANE_BANKS, banks.len() / 2, n),
-        4,
-        Check::Fine,
-    );
-    let of_widths = ragged_if(
-        any_bad(lanes, LANE_WORDS, LANE_WIDTHS, widths.len(), n),
-        4,
-        of_banks,
-    );
-    let of_tangents = ragged_if(
-        any_bad(lanes, LANE_WORDS, LANE_TANGENTS, tangents.len() / 3, n),
-        4,
-        of_widths,
-    );
-    ragged_if(
-        any_bad(lanes, LANE_WORDS, LANE_POINTS, points.len() / 3, n),
-        4,
-        of_tangents,
-    )
-}
+    // Runs out of order or past their lists.
+    fn runs_ragged(self) -> Result<(), Refusal>
+        ensures { found result ≡ runs_ragged (given_of self.entry) }
+    {
+        let words = self.words();
+        let ragged = Refusal::Ragged(4);
+        refuse_if(words.any_bad(LANE_POINTS, self.points.len() / 3), ragged)?;
+        refuse_if(
+            words.any_bad(LANE_TANGENTS, self.tangents.len() / 3),
+            ragged,
+        )?;
+        refuse_if(words.any_bad(LANE_WIDTHS, self.widths.len()), ragged)?;
+        refuse_if(words.any_bad(LANE_BANKS, self.banks.len() / 2), ragged)
+    }
 
-// Lists not in their units, and such runs.
-fn lane_ragged(
-    points: &[f32],
-    tangents: &[f32],
-    widths: &[f32],
-    banks: &[f32],
-    lanes: &[u32],
-) -> Check
-    ensures { let g = given points.now tangents.now widths.now banks.now lanes.now in found result ≡ lane_ragged g }
-{
-    let runs = runs_ragged(points, tangents, widths, banks, lanes);
-    let of_lanes = ragged_if(lanes.len() % LANE_WORDS != 0, 4, runs);
-    let of_banks = ragged_if(banks.len() % 2 != 0, 3, of_lanes);
-    let of_tangents = ragged_if(tangents.len() % 3 != 0, 1, of_banks);
-    ragged_if(points.len() % 3 != 0, 0, of_tangents)
-}
+    // Lists not in their units, and such runs.
+    fn ragged(self) -> Result<(), Refusal>
+        ensures { found result ≡ lane_ragged (given_of self.entry) }
+    {
+        refuse_if(self.points.len() % 3 != 0, Refusal::Ragged(0))?;
+        refuse_if(self.tangents.len() % 3 != 0, Refusal::Ragged(1))?;
+        refuse_if(self.banks.len() % 2 != 0, Refusal::Ragged(3))?;
+        refuse_if(self.records.len() % LANE_WORDS != 0, Refusal::Ragged(4))?;
+        self.runs_ragged()
+    }
 
-// Why the input is turned back, if it is.
-fn input_fault(
-    points: &[f32],
-    tangents: &[f32],
-    widths: &[f32],
-    banks: &[f32],
-    lanes: &[u32],
-) -> Check
-    ensures { let g = given points.now tangents.now widths.now banks.now lanes.now in found result ≡ input_fault g }
-{
-    let limits = lane_limits(lanes);
-    match limits {
-        Check::Faulty(r) => Check::Faulty(r),
-        Check::Fine => lane_ragged(points, tangents, widths, banks, lanes),
+    // Why the lanes are turned back, if they are.
+    fn check(self) -> Result<(), Refusal>
+        ensures { found result ≡ input_fault (given_of self.entry) }
+    {
+        self.limits()?;
+        self.ragged()
     }
 }
 
 // Why the mesh of checked lanes is not written, if it is not. Where the most that the lanes can give fits,
 // nothing need be counted first.
-fn mesh_room(
-    points: &[f32],
-    tangents: &[f32],
-    widths: &[f32],
-    banks: &[f32],
-    lanes: &[u32],
-    lent: Lengths,
-) -> Check
-    requires { let g = given points.now tangents.now widths.now banks.now lanes.now in input_fault g ≡ fine }
-    ensures { let g = given points.now tangents.now widths.now banks.now lanes.now in
-        found result ≡ room_fault (lengths_of (mesh_of g)) lent }
+fn mesh_room(lanes: Lanes, lent: Lengths) -> Result<(), Refusal>
+    requires { input_fault (given_of lanes) ≡ fine }
+    ensures { found result ≡ room_fault (lengths_of (mesh_of (given_of lanes.entry))) lent }
 {
-    let n = lanes.len() / LANE_WORDS;
-    let most = lengths_at(most_sizes(lanes, n));
-    let f = room_fault(most, lent);
-    match f {
-        Check::Fine => Check::Fine,
-        Check::Faulty(r) => {
-            let at = totals(points, tangents, widths, banks, lanes, n);
-            room_fault(lengths_at(at), lent)
-        }
+    if room_fault(lengths_at(most_sizes(lanes)), lent).is_ok() {
+        return Ok(());
     }
+    room_fault(lengths_at(totals(lanes)), lent)
 }
 
 // Why the call is turned back, if it is.
-fn call_fault(
-    points: &[f32],
-    tangents: &[f32],
-    widths: &[f32],
-    banks: &[f32],
-    lanes: &[u32],
-    lent: Lengths,
-) -> Check
-    ensures { let g = given points.now tangents.now widths.now banks.now lanes.now in found result ≡ call_fault g lent }
+#[tactic(auto, unfolding(crate::specs::Refusal::found, crate::specs::Refusal::or_else, crate::specs::SurfaceMesh::call_fault))]
+fn call_fault(lanes: Lanes, lent: Lengths) -> Result<(), Refusal>
+    ensures { found result ≡ call_fault (given_of lanes.entry) lent }
 {
-    let input = input_fault(points, tangents, widths, banks, lanes);
-    match input {
-        Check::Faulty(r) => Check::Faulty(r),
-        Check::Fine => mesh_room(points, tangents, widths, banks, lanes, lent),
-    }
+    lanes.check()?;
+    mesh_room(lanes, lent)
 }
 
 // The strips of all lanes, one after another, into the lent memory. A lane is ten words: its id; start
 // and end of its points, tangents, widths and banks; the bits of its default width. A span is five: the
 // lane's id; start and end of its vertices and of its indices.
 pub fn surface_mesh(
-    points: &[f32],
-    tangents: &[f32],
-    widths: &[f32],
-    banks: &[f32],
-    lanes: &[u32],
+    lanes: Lanes,
     vertices: &mut [f32],
     normals: &mut [f32],
     indices: &mut [u32],
     spans: &mut [u32],
-) -> MeshAnswer
-    ensures result_value { let g = given points.now tangents.now widths.now banks.now lanes.now in
+) -> Result<MeshCounts, Refusal>
+    ensures result_value { let g = given_of lanes.entry in
         let before = mesh_lists vertices.old normals.old indices.old spans.old in
-        read_mesh result ≡ answer_of g before }
-    ensures mesh_after { let g = given points.now tangents.now widths.now banks.now lanes.now in
+        told result ≡ answer_of g before }
+    ensures mesh_after { let g = given_of lanes.entry in
         let before = mesh_lists vertices.old normals.old indices.old spans.old in
         let after = mesh_lists vertices.new normals.new indices.new spans.new in
         after ≡ leaves_mesh (answer_of g before) (mesh_of g) before }
@@ -420,15 +303,7 @@ pub fn surface_mesh(
         indices: indices.len(),
         spans: spans.len(),
     };
-    let f = call_fault(points, tangents, widths, banks, lanes, lent);
-    match f {
-        Check::Faulty(r) => MeshAnswer::Refused(r),
-        Check::Fine => {
-            let n = lanes.len() / LANE_WORDS;
-            let at = put_lanes(
-                points, tangents, widths, banks, lanes, n, vertices, normals, indices, spans,
-            );
-            MeshAnswer::Made(counts(lengths_at(at)))
-        }
-    }
+    call_fault(lanes, lent)?;
+    let at = put_lanes(lanes, vertices, normals, indices, spans);
+    Ok(counts(lengths_at(at)))
 }

@@ -3,16 +3,29 @@
 // have the same tangent there, and so the same rib. At a corner tighter than half the width the inner vertex
 // would pass the next inner one and fold the strip, so it is drawn in (pinched), while the outer one keeps
 // its distance.
-ghost use Rattle.std.specs.Prelude.{◌≡◌, ◌+◌, ◌-◌, ◌^◌, ◌<◌, min, true};
+#![tactic(auto, unfolding(crate::specs::Strip::kept_point, crate::specs::Strip::leg_of, crate::specs::Strip::no_leg, crate::specs::Strip::leg_out, crate::specs::Strip::along_of, crate::specs::Strip::grade_of, crate::specs::Strip::slope_of, crate::specs::Strip::lateral_of, crate::specs::Strip::half_of, crate::specs::Strip::eat_square_of, crate::specs::Strip::turns_left, crate::specs::MeshSteps::walk_at, vector::specs::Coords::zero_vector, vector::specs::Coords::up_vector))]
+
+ghost use Rattle.std.specs.Prelude.{◌≡◌, ◌^◌, ◌<◌, true};
 ghost use Rattle.vector.specs.Coords.{vector_add, normalize_or, normalize_or_zero};
 ghost use Rattle.shape.specs.Strip.{lane_of, kept_point, leg_of, no_leg, leg_in, leg_out, along_of, grade_of, slope_of, lateral_of, half_of, eat_square_of, turns_left, spread_of, rib_at};
 ghost use Rattle.shape.specs.MeshSteps.{Mild, walk_at};
 
-use crate::lists::{both, point_at, single_or, vector_at, word_at};
-use rounding::extremes::{clamp32, is_finite32, max32, min32};
+use crate::lists::{point_at, single_or, vector_at, word_at};
+use rounding::extremes::{clamp, is_finite, max, min};
 use rounding::root::{root_near_one, sqrt32};
 use vector::coords::{Point, Vector};
 use vector::geometry::{horizontal, left_normal};
+
+// A lane as it is lent: the coordinates of its points and of its tangents in threes, its widths, its banks in
+// twos as sine and cosine, and the width where the list has none.
+#[derive(Clone, Copy)]
+pub(crate) struct Lane<'a> {
+    pub points: &'a [f32],
+    pub tangents: &'a [f32],
+    pub widths: &'a [f32],
+    pub banks: &'a [f32],
+    pub width: f32,
+}
 
 // From one kept point to the next: the direction on the ground, and the square of the length.
 #[derive(Clone, Copy)]
@@ -52,7 +65,7 @@ fn kept_point(points: &[f32], ks: &[u32], i: usize) -> Point
 fn leg_between(a: Point, b: Point) -> Leg
     ensures { result ≡ leg_of a b }
 {
-    let d = b.sub(a);
+    let d = b - a;
     Leg {
         way: horizontal(d).normalize_or_zero(),
         square: d.length_squared(),
@@ -82,22 +95,21 @@ fn leg_out(points: &[f32], ks: &[u32], i: usize) -> Leg
 fn bisector(inc: Vector, out: Vector) -> Vector
     ensures { result ≡ normalize_or_zero (vector_add inc out) }
 {
-    inc.add(out).normalize_or_zero()
+    (inc + out).normalize_or_zero()
 }
 
 // Along the lane, by the tangent t. The way between the legs is worked out only where the tangent has no
 // direction.
+#[tactic(auto, unfolding(vector::specs::Coords::normalize_or))]
 fn along_any(t: Vector, inc: Vector, out: Vector) -> Vector
     ensures { result ≡ normalize_or t (normalize_or_zero (vector_add inc out)) }
 {
     let len = t.length();
-    if is_finite32(len) {
-        if len > 0.0 {
-            return t.mul(1.0 / len);
-        }
-        return bisector(inc, out);
+    if is_finite(len) && len > 0.0 {
+        t * (1.0 / len)
+    } else {
+        bisector(inc, out)
     }
-    bisector(inc, out)
 }
 
 // Along the lane. Most tangents have about unit length, and their root is the cheap one.
@@ -106,9 +118,8 @@ fn along(tangents: &[f32], k: usize, inc: Vector, out: Vector) -> Vector
     ensures { result ≡ along_of tangents.now k inc out }
 {
     let t = horizontal(vector_at(tangents, k));
-    let near = root_near_one(t.length_squared());
-    if near.is {
-        return t.mul(1.0 / near.root);
+    if let Some(root) = root_near_one(t.length_squared()) {
+        return t * (1.0 / root);
     }
     along_any(t, inc, out)
 }
@@ -117,29 +128,15 @@ fn along(tangents: &[f32], k: usize, inc: Vector, out: Vector) -> Vector
 fn grade(a: Point, b: Point) -> f32
     ensures { result ≡ grade_of a b }
 {
-    let run = horizontal(b.sub(a)).length();
+    let run = horizontal(b - a).length();
     if run > 1e-6 { (b.z - a.z) / run } else { 0.0 }
-}
-
-fn index_before(i: usize) -> usize
-    ensures { result ≡ i - 1 }
-{
-    if i == 0 { 0 } else { i - 1 }
-}
-
-fn index_after(i: usize, n: usize) -> usize
-    requires { i < 2 ^ 61 }
-    ensures { result ≡ min (i + 1) (n - 1) }
-{
-    let last = index_before(n);
-    if i + 1 < last { i + 1 } else { last }
 }
 
 // Along the lane with the grade between the neighbours a and b.
 fn slope(along: Vector, a: Point, b: Point) -> Vector
     ensures { result ≡ slope_of along a b }
 {
-    along.add(Vector::Z.mul(grade(a, b))).normalize_or(along)
+    (along + Vector::Z * grade(a, b)).normalize_or(along)
 }
 
 // Across the lane: its left, rolled by the bank.
@@ -162,14 +159,14 @@ fn half_at(widths: &[f32], k: usize, width: f32) -> f32
 fn eat_square(inc: Vector, out: Vector) -> f32
     ensures { result ≡ eat_square_of inc out }
 {
-    let cos_turn = clamp32(inc.dot(out), -1.0, 1.0);
-    max32((1.0 - cos_turn) * 0.5, 0.0)
+    let cos_turn = clamp(inc.dot(out), -1.0, 1.0);
+    max((1.0 - cos_turn) * 0.5, 0.0)
 }
 
 fn turns_left(inc: Vector, out: Vector, left: Vector) -> bool
     ensures { result ≡ turns_left inc out left }
 {
-    out.sub(inc).dot(left) > 0.0
+    (out - inc).dot(left) > 0.0
 }
 
 // Is a corner so mild that nothing is pinched at half the width h? Most are: the sine of half the turn
@@ -177,106 +174,74 @@ fn turns_left(inc: Vector, out: Vector, left: Vector) -> bool
 fn mild(eats: f32, inc: f32, out: f32, h: f32) -> bool
     ensures { result ≡ true → Mild eats inc out h }
 {
-    if eats <= 0.00390625 {
-        if inc >= 1.0 {
-            if out >= 1.0 {
-                return h <= 7.0;
-            }
-            return false;
-        }
-        return false;
-    }
-    false
+    eats <= 0.00390625 && inc >= 1.0 && out >= 1.0 && h <= 7.0
 }
 
 // The corner pinched. An offset of 1 moves the inner vertex along each leg by `eats`; it may take just under
 // half of the shorter leg, so that the two ends of a leg never pass each other.
+#[tactic(auto, unfolding(crate::specs::Strip::spread_of, crate::specs::Strip::pinches, crate::specs::Strip::inner_of, crate::specs::Strip::shorter_of, crate::specs::Strip::eat_of))]
 fn pinched(inc: Leg, out: Leg, left: Vector, h: f32) -> Spread
     ensures { result ≡ spread_of true inc out left h }
 {
-    let full = Spread { left: h, right: h };
-    let into = inc.way;
-    let away = out.way;
-    let eats = sqrt32(eat_square(into, away));
-    let seg = min32(sqrt32(inc.square), sqrt32(out.square));
-    if eats > 1e-4 {
-        if seg > 1e-6 {
-            let inner = min32(h, 0.49 * seg / eats);
-            if turns_left(into, away, left) {
-                return Spread {
-                    left: inner,
-                    right: h,
-                };
-            }
+    let eats = sqrt32(eat_square(inc.way, out.way));
+    let seg = min(sqrt32(inc.square), sqrt32(out.square));
+    if eats > 1e-4 && seg > 1e-6 {
+        let inner = min(h, 0.49 * seg / eats);
+        if turns_left(inc.way, out.way, left) {
             return Spread {
-                left: h,
-                right: inner,
+                left: inner,
+                right: h,
             };
         }
-        return full;
+        return Spread {
+            left: h,
+            right: inner,
+        };
     }
-    full
+    Spread { left: h, right: h }
 }
 
+#[tactic(auto, using(crate::proofs::Corners::mild_full), unfolding(crate::specs::Strip::spread_of))]
 fn spread_at(corner: bool, inc: Leg, out: Leg, left: Vector, h: f32) -> Spread
     ensures { result ≡ spread_of corner inc out left h }
 {
-    if !corner {
-        return Spread { left: h, right: h };
-    }
-    let into = inc.way;
-    let away = out.way;
-    if mild(eat_square(into, away), inc.square, out.square, h) {
-        return Spread { left: h, right: h };
-    }
-    pinched(inc, out, left, h)
-}
-
-// Rib i over the kept points, with the legs into its point and out of it.
-fn rib_at(
-    points: &[f32],
-    tangents: &[f32],
-    widths: &[f32],
-    banks: &[f32],
-    width: f32,
-    ks: &[u32],
-    i: usize,
-    inc: Leg,
-    out: Leg,
-) -> Rib
-    requires { (i < 2 ^ 61) × (inc ≡ leg_in points.now ks.now i) × (out ≡ leg_out points.now ks.now i) }
-    ensures { result ≡ rib_at (lane_of points.now tangents.now widths.now banks.now width) ks.now i }
-{
-    let k = word_at(ks, i);
-    let p = kept_point(points, ks, i);
-    let way = along(tangents, k, inc.way, out.way);
-    let left = left_normal(way);
-    let across = lateral(banks, k, left, way);
-    let corner = both(0 < i, i + 1 < ks.len());
-    let m = spread_at(corner, inc, out, left, half_at(widths, k, width));
-    let a = kept_point(points, ks, index_before(i));
-    let b = kept_point(points, ks, index_after(i, ks.len()));
-    Rib {
-        left: p.add(across.mul(m.left)),
-        right: p.sub_vector(across.mul(m.right)),
-        up: slope(way, a, b).cross(across).normalize_or(Vector::Z),
+    if corner && !mild(eat_square(inc.way, out.way), inc.square, out.square, h) {
+        pinched(inc, out, left, h)
+    } else {
+        Spread { left: h, right: h }
     }
 }
 
-pub(crate) fn walk_at(
-    points: &[f32],
-    tangents: &[f32],
-    widths: &[f32],
-    banks: &[f32],
-    width: f32,
-    ks: &[u32],
-    i: usize,
-    inc: Leg,
-) -> Walk
-    requires { (i < 2 ^ 61) × (inc ≡ leg_in points.now ks.now i) }
-    ensures { result ≡ walk_at (lane_of points.now tangents.now widths.now banks.now width) ks.now i }
-{
-    let out = leg_out(points, ks, i);
-    let rib = rib_at(points, tangents, widths, banks, width, ks, i, inc, out);
-    Walk { rib: rib, out: out }
+impl Lane<'_> {
+    // Rib i over the kept points, with the legs into its point and out of it.
+    #[tactic(auto, unfolding(crate::specs::Strip::rib_at, vector::specs::Coords::up_vector))]
+    fn rib_at(self, ks: &[u32], i: usize, inc: Leg, out: Leg) -> Rib
+        requires { (i < 2 ^ 61) × (inc ≡ leg_in self.points.now ks.now i) × (out ≡ leg_out self.points.now ks.now i) }
+        ensures { result ≡ rib_at (lane_of self.entry) ks.now i }
+    {
+        let k = word_at(ks, i);
+        let p = kept_point(self.points, ks, i);
+        let way = along(self.tangents, k, inc.way, out.way);
+        let left = left_normal(way);
+        let across = lateral(self.banks, k, left, way);
+        let corner = (0 < i) & (i + 1 < ks.len());
+        let m = spread_at(corner, inc, out, left, half_at(self.widths, k, self.width));
+        let a = kept_point(self.points, ks, i.saturating_sub(1));
+        let b = kept_point(self.points, ks, (i + 1).min(ks.len().saturating_sub(1)));
+        Rib {
+            left: p + across * m.left,
+            right: p - across * m.right,
+            up: slope(way, a, b).cross(across).normalize_or(Vector::Z),
+        }
+    }
+
+    // The same with the leg out of its point worked out.
+    pub(crate) fn walk_at(self, ks: &[u32], i: usize, inc: Leg) -> Walk
+        requires { (i < 2 ^ 61) × (inc ≡ leg_in self.points.now ks.now i) }
+        ensures { result ≡ walk_at (lane_of self.entry) ks.now i }
+    {
+        let out = leg_out(self.points, ks, i);
+        let rib = self.rib_at(ks, i, inc, out);
+        Walk { rib, out }
+    }
 }

@@ -8,47 +8,35 @@ ghost use Rattle.shape.specs.SurfaceMesh.{span_of};
 ghost use Rattle.shape.specs.MeshSteps.{Grown, Room, Wrote};
 
 use crate::lists::SPAN_WORDS;
-use crate::memory::{put_singles, put_word};
-use crate::rib::{Rib, no_leg, walk_at};
+use crate::memory::put;
+use crate::rib::{Lane, Rib, no_leg};
 use crate::weld::weld;
-use vector::coords::{Point, Vector};
+use vector::coords::Point;
 
 // Whether the triangle a b c has less area than 1e-6, in twice its square metres.
+#[tactic(auto, unfolding(crate::specs::Strip::no_area))]
 pub fn no_area(a: Point, b: Point, c: Point) -> bool
     ensures { result ≡ no_area a b c }
 {
-    b.sub(a).cross(c.sub(a)).length_below_micro()
-}
-
-// Two points into the memory.
-fn put_six(out: &mut [f32], at: usize, a: Point, b: Point) -> usize
-    requires { at + 6 ≤ length out.old }
-    ensures { Put out.old out.new at (six_of a b) result }
-{
-    let q = put_singles(out, at, a.x, a.y, a.z);
-    put_singles(out, q, b.x, b.y, b.z)
-}
-
-// A normal twice into the memory.
-fn put_ups(out: &mut [f32], at: usize, v: Vector) -> usize
-    requires { at + 6 ≤ length out.old }
-    ensures { Put out.old out.new at (ups_of v) result }
-{
-    let q = put_singles(out, at, v.x, v.y, v.z);
-    put_singles(out, q, v.x, v.y, v.z)
+    (b - a).cross(c - a).length_below_micro()
 }
 
 // The two vertices of a rib, left edge first, and their normals.
+#[tactic(auto, unfolding(crate::specs::Strip::six_of, crate::specs::Strip::ups_of))]
 fn put_rib(vertices: &mut [f32], normals: &mut [f32], at: usize, r: Rib) -> usize
     requires { (at + 6 ≤ length vertices.old) × (at + 6 ≤ length normals.old) }
     ensures vertices_put { Put vertices.old vertices.new at (six_of r.left r.right) result }
     ensures normals_put { Put normals.old normals.new at (ups_of r.up) result }
 {
-    put_six(vertices, at, r.left, r.right);
-    put_ups(normals, at, r.up)
+    let a = r.left;
+    let b = r.right;
+    let v = r.up;
+    put(vertices, at, [a.x, a.y, a.z, b.x, b.y, b.z]);
+    put(normals, at, [v.x, v.y, v.z, v.x, v.y, v.z])
 }
 
 // A triangle into the memory, unless it is flat.
+#[tactic(auto, unfolding(crate::specs::Strip::triangle_of))]
 fn put_triangle(out: &mut [u32], at: usize, flat: bool, a: usize, b: usize, c: usize) -> usize
     requires { (at + length (triangle_of flat a b c) ≤ length out.old) × (a < 2 ^ 32) × (b < 2 ^ 32) × (c < 2 ^ 32) }
     ensures { Put out.old out.new at (triangle_of flat a b c) result }
@@ -56,13 +44,11 @@ fn put_triangle(out: &mut [u32], at: usize, flat: bool, a: usize, b: usize, c: u
     if flat {
         return at;
     }
-    put_word(out, at, a);
-    put_word(out, at + 1, b);
-    put_word(out, at + 2, c);
-    at + 3
+    put(out, at, [a as u32, b as u32, c as u32])
 }
 
 // The two triangles between two ribs, the first of whose vertices is v, less any with no area.
+#[tactic(auto, using(crate::proofs::Laws::Memory::put_then, crate::proofs::Laws::Memory::put_length, crate::proofs::Strips::segment_length), unfolding(crate::specs::Strip::segment_of))]
 fn put_segment(out: &mut [u32], at: usize, v: usize, a: Rib, b: Rib) -> usize
     requires { (at + length (segment_of v a b) ≤ length out.old) × (v < 4294967290) }
     ensures { Put out.old out.new at (segment_of v a b) result }
@@ -71,12 +57,14 @@ fn put_segment(out: &mut [u32], at: usize, v: usize, a: Rib, b: Rib) -> usize
     put_triangle(out, q, no_area(a.left, b.right, b.left), v, v + 3, v + 2)
 }
 
+#[tactic(auto, unfolding(crate::specs::Strip::triangle_of))]
 fn count_triangle(flat: bool) -> usize
     ensures { ((a b c : ℕ) → result ≡ length (triangle_of flat a b c)) × (result ≤ 3) }
 {
     if flat { 0 } else { 3 }
 }
 
+#[tactic(auto, using(crate::proofs::Strips::segment_length))]
 fn count_segment(a: Rib, b: Rib) -> usize
     ensures { ((v : ℕ) → result ≡ length (segment_of v a b)) × (result ≤ 6) }
 {
@@ -85,27 +73,17 @@ fn count_segment(a: Rib, b: Rib) -> usize
 }
 
 // How many indices a strip has, wherever its vertices start.
-fn count_indices(
-    points: &[f32],
-    tangents: &[f32],
-    widths: &[f32],
-    banks: &[f32],
-    width: f32,
-    ks: &[u32],
-) -> usize
+fn count_indices(lane: Lane, ks: &[u32]) -> usize
     requires { length ks.now ≤ max_lane_points }
-    ensures by_index { (v : ℕ) → result ≡ length (indices_of v (lane_of points.now tangents.now widths.now banks.now width) ks.now) }
+    ensures by_index { (v : ℕ) → result ≡ length (indices_of v (lane_of lane.entry) ks.now) }
     ensures upper_bound { result ≤ 24576 }
 {
     let mut q: usize = 0;
-    let mut i: usize = 0;
-    let mut w = walk_at(points, tangents, widths, banks, width, ks, 0, no_leg());
-    while i + 1 < ks.len() {
-        let inc = w.out;
-        let next = walk_at(points, tangents, widths, banks, width, ks, i + 1, inc);
+    let mut w = lane.walk_at(ks, 0, no_leg());
+    for i in 1..ks.len() {
+        let next = lane.walk_at(ks, i, w.out);
         q += count_segment(w.rib, next.rib);
         w = next;
-        i += 1;
     }
     q
 }
@@ -118,14 +96,18 @@ pub(crate) struct At {
     pub word: usize,
 }
 
+impl At {
+    pub const START: At = At {
+        floats: 0,
+        index: 0,
+        word: 0,
+    };
+}
+
 // The strip over the kept points, of which there are some, from `at` on. Each rib serves the segment
 // before it and the segment after it.
 fn put_ribs(
-    points: &[f32],
-    tangents: &[f32],
-    widths: &[f32],
-    banks: &[f32],
-    width: f32,
+    lane: Lane,
     ks: &[u32],
     vertices: &mut [f32],
     normals: &mut [f32],
@@ -135,25 +117,22 @@ fn put_ribs(
     requires room { let n = length ks.now in
         (0 < n) × (at.floats + 6 * n ≤ length vertices.old) × (at.floats + 6 * n ≤ length normals.old)
         × (at.floats / 3 + 2 * n < 4294967290) }
-    requires ks_in_bounds { at.index + length (indices_of (at.floats / 3) (lane_of points.now tangents.now widths.now banks.now width) ks.now) ≤ length indices.old }
-    ensures { let l = lane_of points.now tangents.now widths.now banks.now width in
+    requires ks_in_bounds { at.index + length (indices_of (at.floats / 3) (lane_of lane) ks.now) ≤ length indices.old }
+    ensures { let l = lane_of lane.entry in
         let k = ks.now in
         (Put vertices.old vertices.new at.floats (vertices_of l k) result.floats)
         × (Put normals.old normals.new at.floats (normals_of l k) result.floats)
         × (Put indices.old indices.new at.index (indices_of (at.floats / 3) l k) result.index) }
 {
     let v = at.floats / 3;
-    let mut w = walk_at(points, tangents, widths, banks, width, ks, 0, no_leg());
+    let mut w = lane.walk_at(ks, 0, no_leg());
     let mut q = at.floats;
     let mut j = at.index;
-    let mut i: usize = 0;
-    while i + 1 < ks.len() {
-        let inc = w.out;
-        let next = walk_at(points, tangents, widths, banks, width, ks, i + 1, inc);
+    for i in 1..ks.len() {
+        let next = lane.walk_at(ks, i, w.out);
         q = put_rib(vertices, normals, q, w.rib);
-        j = put_segment(indices, j, v + 2 * i, w.rib, next.rib);
+        j = put_segment(indices, j, v + 2 * (i - 1), w.rib, next.rib);
         w = next;
-        i += 1;
     }
     At {
         floats: put_rib(vertices, normals, q, w.rib),
@@ -162,6 +141,7 @@ fn put_ribs(
     }
 }
 
+#[tactic(auto, unfolding(crate::specs::SurfaceMesh::span_of))]
 fn span_size(n: usize) -> usize
     ensures { ((id v w i j : ℕ) → result ≡ length (span_of n id v w i j)) × (result ≤ span_words) }
 {
@@ -172,30 +152,17 @@ fn put_span(out: &mut [u32], at: usize, id: usize, v: usize, w: usize, i: usize,
     requires { (at + span_words ≤ length out.old) × (id < 2 ^ 32) × (v < 2 ^ 32) × (w < 2 ^ 32) × (i < 2 ^ 32) × (j < 2 ^ 32) }
     ensures { Put out.old out.new at (id ∷ v ∷ w ∷ i ∷ j ∷ []) result }
 {
-    put_word(out, at, id);
-    put_word(out, at + 1, v);
-    put_word(out, at + 2, w);
-    put_word(out, at + 3, i);
-    put_word(out, at + 4, j);
-    at + SPAN_WORDS
+    put(out, at, [id as u32, v as u32, w as u32, i as u32, j as u32])
 }
 
 // The sizes with one more lane. `kept` is room to work in.
-pub(crate) fn size_strip(
-    points: &[f32],
-    tangents: &[f32],
-    widths: &[f32],
-    banks: &[f32],
-    width: f32,
-    kept: &mut [u32],
-    at: At,
-) -> At
-    requires { (length points.now / 3 ≤ max_lane_points) × (length kept.old ≡ max_lane_points) × (at.floats < 2 ^ 60) × (at.index < 2 ^ 60) × (at.word < 2 ^ 60) }
-    ensures { Grown (lane_of points.now tangents.now widths.now banks.now width) at result }
+pub(crate) fn size_strip(lane: Lane, kept: &mut [u32], at: At) -> At
+    requires { (length lane.points.now / 3 ≤ max_lane_points) × (length kept.old ≡ max_lane_points) × (at.floats < 2 ^ 60) × (at.index < 2 ^ 60) × (at.word < 2 ^ 60) }
+    ensures { Grown (lane_of lane.entry) at result }
 {
-    let n = weld(points, kept);
+    let n = weld(lane.points, kept);
     let ks = &kept[..n];
-    let m = count_indices(points, tangents, widths, banks, width, ks);
+    let m = count_indices(lane, ks);
     At {
         floats: at.floats + 6 * n,
         index: at.index + m,
@@ -205,11 +172,7 @@ pub(crate) fn size_strip(
 
 // A lane's strip into the memory, from `at` on. `kept` is room to work in.
 pub(crate) fn put_strip(
-    points: &[f32],
-    tangents: &[f32],
-    widths: &[f32],
-    banks: &[f32],
-    width: f32,
+    lane: Lane,
     id: usize,
     kept: &mut [u32],
     at: At,
@@ -218,21 +181,19 @@ pub(crate) fn put_strip(
     indices: &mut [u32],
     spans: &mut [u32],
 ) -> At
-    requires points_len_bound { (length points.now / 3 ≤ max_lane_points) × (id < 2 ^ 32) × (length kept.old ≡ max_lane_points) }
-    requires room { Room (lane_of points.now tangents.now widths.now banks.now width) at vertices.old normals.old indices.old spans.old }
-    ensures { let l = lane_of points.now tangents.now widths.now banks.now width in
+    requires points_len_bound { (length lane.points.now / 3 ≤ max_lane_points) × (id < 2 ^ 32) × (length kept.old ≡ max_lane_points) }
+    requires room { Room (lane_of lane) at vertices.old normals.old indices.old spans.old }
+    ensures { let l = lane_of lane.entry in
         Wrote l id at result
         vertices.old vertices.new normals.old normals.new
         indices.old indices.new spans.old spans.new }
 {
-    let n = weld(points, kept);
+    let n = weld(lane.points, kept);
     if n == 0 {
         return at;
     }
     let ks = &kept[..n];
-    let to = put_ribs(
-        points, tangents, widths, banks, width, ks, vertices, normals, indices, at,
-    );
+    let to = put_ribs(lane, ks, vertices, normals, indices, at);
     let word = put_span(
         spans,
         at.word,
@@ -245,6 +206,6 @@ pub(crate) fn put_strip(
     At {
         floats: to.floats,
         index: to.index,
-        word: word,
+        word,
     }
 }

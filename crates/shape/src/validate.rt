@@ -1,20 +1,21 @@
 // Whether a mesh can back a physics collider (`Mesh::validate`).
+#![tactic(auto, unfolding(crate::specs::Refusal::found, crate::specs::Refusal::judge, crate::specs::Refusal::number_of, crate::specs::Refusal::place_of, crate::specs::Verdict::unsound, crate::specs::Verdict::flat_or, crate::specs::Verdict::corner_of, crate::specs::Verdict::finding_of, crate::specs::Verdict::is_faulty, crate::specs::Verdict::faulty_at, crate::specs::Verdict::tell, crate::specs::Verdict::of_triangles, crate::specs::Verdict::validity_of, crate::specs::Verdict::verdict_of, crate::specs::Verdict::read_verdict))]
+
 ghost use Rattle.std.specs.Prelude.{◌≡◌, ◌+◌, ◌*◌, ◌/◌, ◌<◌, true, length};
 ghost use Rattle.shape.specs.Gather.{least};
 ghost use Rattle.shape.specs.Refusal.{judge, taken};
-ghost use Rattle.shape.specs.Lists.{mesh_lists, mesh_fault};
-ghost use Rattle.shape.specs.Verdict.{FiniteBelow, unsound, finding_of, flat_or, triples_of, faulty_at, tell, of_triangles, validity_of, read_verdict};
+ghost use Rattle.shape.specs.Lists.{point_at, lists_of, mesh_fault};
+ghost use Rattle.shape.specs.Strip.{no_area};
+ghost use Rattle.shape.specs.Verdict.{FiniteBelow, unsound, corner_of, finding_of, flat_or, triples_of, faulty_at, tell, of_triangles, validity_of, verdict_of, read_verdict};
 
-use crate::lists::{both, mesh_fault, point_at, word_at};
-use crate::refusal::{Check, Refusal};
+use crate::lists::{Mesh, point_at, word_at};
+use crate::refusal::Refusal;
 use crate::strip::no_area;
-use rounding::bits::wide;
-use rounding::extremes::is_finite32;
+use rounding::extremes::is_finite;
 
-// What `validate` answers, with the counts of the finding.
-#[derive(Clone, Copy)]
-pub enum Verdict {
-    Sound,
+// What is wrong with a mesh, with the counts of the finding.
+#[derive(Clone, Copy, PartialEq, Eq, Debug)]
+pub enum MeshError {
     // No triangles at all.
     Empty,
     // The vertex that has a NaN or an infinity.
@@ -23,46 +24,43 @@ pub enum Verdict {
     IndexOutOfRange(usize, usize, usize),
     // The triangle that has no area.
     DegenerateTriangle(usize),
-    Refused(Refusal),
 }
 
-// What is found of one triangle.
+// What is wrong with one triangle: an index past the vertices, or no area.
 #[derive(Clone, Copy)]
-enum Finding {
-    Fine,
+enum Flaw {
     Past(usize),
     Flat,
 }
 
 // Are all the numbers finite? There is no early exit, so that several are tested at a time.
+#[tactic(auto, using(crate::proofs::Verdicts::finite_next))]
 fn every_finite(xs: &[f32]) -> bool
     ensures { result ≡ true → FiniteBelow xs.now (length xs.now) }
 {
     let mut ok = true;
-    let mut i: usize = 0;
-    while i < xs.len() {
-        ok = both(ok, is_finite32(xs[i]));
-        i += 1;
+    for x in xs {
+        ok &= is_finite(*x);
     }
     ok
 }
 
 // The first vertex that is not finite, and their number where all are.
+#[tactic(auto, using(crate::proofs::Laws::Gather::any_next, crate::proofs::Laws::Gather::least_found, crate::proofs::Laws::Gather::least_past), unfolding(crate::specs::Gather::any, crate::specs::Verdict::unsound))]
 fn search_unsound(vertices: &[f32]) -> usize
     ensures { result ≡ least (unsound vertices.now) (length vertices.now / 3) }
 {
     let n = vertices.len() / 3;
-    let mut i: usize = 0;
-    while i < n {
+    for i in 0..n {
         if !point_at(vertices, i).is_finite() {
             return i;
         }
-        i += 1;
     }
     n
 }
 
 // The same. In most meshes all are finite, which takes no search to see.
+#[tactic(auto, using(crate::proofs::Laws::Gather::least_none, crate::proofs::Verdicts::finite_sound))]
 fn first_unsound(vertices: &[f32]) -> usize
     ensures { result ≡ least (unsound vertices.now) (length vertices.now / 3) }
 {
@@ -72,57 +70,53 @@ fn first_unsound(vertices: &[f32]) -> usize
     search_unsound(vertices)
 }
 
-// What is found of triangle t. The last may have fewer than three corners: a bad index of it counts
-// before that.
-fn examine(vertices: &[f32], indices: &[u32], t: usize) -> Finding
+// What is wrong with triangle t, if anything is. The last may have fewer than three corners: a bad index of
+// it counts before that.
+fn examine(vertices: &[f32], indices: &[u32], t: usize) -> Result<(), Flaw>
     requires { 3 * t < length indices.now }
     ensures { result ≡ finding_of vertices.now indices.now t }
 {
     let n = vertices.len() / 3;
     let at = 3 * t;
-    let a = word_at(indices, at);
-    if n <= a {
-        return Finding::Past(a);
-    }
-    if indices.len() <= at + 1 {
-        return Finding::Flat;
-    }
-    let b = word_at(indices, at + 1);
-    if n <= b {
-        return Finding::Past(b);
-    }
-    if indices.len() <= at + 2 {
-        return Finding::Flat;
-    }
-    let c = word_at(indices, at + 2);
-    if n <= c {
-        return Finding::Past(c);
-    }
+    let a = corner(indices, at, n)?;
+    let b = corner(indices, at + 1, n)?;
+    let c = corner(indices, at + 2, n)?;
     flat_or_fine(vertices, a, b, c)
 }
 
+// The corner at a place of the indices, of n vertices: there may be no index, and it may be past them.
+fn corner(indices: &[u32], at: usize, n: usize) -> Result<usize, Flaw>
+    ensures { result ≡ corner_of indices.now at n }
+{
+    if indices.len() <= at {
+        return Err(Flaw::Flat);
+    }
+    let i = word_at(indices, at);
+    if n <= i {
+        return Err(Flaw::Past(i));
+    }
+    Ok(i)
+}
+
 // A triangle of three vertices is flat if it repeats a corner or has no area.
-fn flat_or_fine(vertices: &[f32], a: usize, b: usize, c: usize) -> Finding
-    requires { (a < 4294967296) × (b < 4294967296) × (c < 4294967296) }
+fn flat_or_fine(vertices: &[f32], a: usize, b: usize, c: usize) -> Result<(), Flaw>
     ensures { result ≡ flat_or vertices.now a b c }
 {
-    if a == b {
-        return Finding::Flat;
+    if a == b || b == c || a == c || no_area_at(vertices, a, b, c) {
+        return Err(Flaw::Flat);
     }
-    if b == c {
-        return Finding::Flat;
-    }
-    if a == c {
-        return Finding::Flat;
-    }
-    if no_area(
+    Ok(())
+}
+
+// Has the triangle of three vertices no area?
+fn no_area_at(vertices: &[f32], a: usize, b: usize, c: usize) -> bool
+    ensures { result ≡ no_area (point_at vertices.now a) (point_at vertices.now b) (point_at vertices.now c) }
+{
+    no_area(
         point_at(vertices, a),
         point_at(vertices, b),
         point_at(vertices, c),
-    ) {
-        return Finding::Flat;
-    }
-    Finding::Fine
+    )
 }
 
 // Is something wrong with triangle t, which has three indices, in a mesh of n vertices?
@@ -131,9 +125,9 @@ fn whole_faulty(vertices: &[f32], indices: &[u32], n: usize, t: usize) -> bool
     ensures { result ≡ faulty_at vertices.now indices.now t }
 {
     let at = 3 * t;
-    let a = wide(indices[at]);
-    let b = wide(indices[at + 1]);
-    let c = wide(indices[at + 2]);
+    let a = indices[at] as usize;
+    let b = indices[at + 1] as usize;
+    let c = indices[at + 2] as usize;
     if n <= a {
         return true;
     }
@@ -149,77 +143,66 @@ fn whole_faulty(vertices: &[f32], indices: &[u32], n: usize, t: usize) -> bool
     if b == c {
         return true;
     }
-    if a == c {
-        return true;
-    }
-    no_area(
-        point_at(vertices, a),
-        point_at(vertices, b),
-        point_at(vertices, c),
-    )
+    a == c || no_area_at(vertices, a, b, c)
 }
 
 // The first triangle with something wrong, and their number where there is none. A short last one has
 // something wrong in any case.
+#[tactic(auto, using(crate::proofs::Laws::Gather::any_next, crate::proofs::Laws::Gather::least_found, crate::proofs::Verdicts::whole_least), unfolding(crate::specs::Gather::any))]
 fn first_faulty(vertices: &[f32], indices: &[u32]) -> usize
     ensures { result ≡ least (faulty_at vertices.now indices.now) (triples_of indices.now) }
 {
     let n = vertices.len() / 3;
     let m = indices.len() / 3;
-    let mut t: usize = 0;
-    while t < m {
+    for t in 0..m {
         if whole_faulty(vertices, indices, n, t) {
             return t;
         }
-        t += 1;
     }
     m
 }
 
-// What is found of triangle t, as the verdict on a mesh of n vertices.
-fn verdict_of(t: usize, f: Finding, n: usize) -> Verdict
-    ensures { read_verdict result ≡ taken (tell n t f) }
+// What is wrong with triangle t, as the verdict on a mesh of n vertices.
+fn error_of(t: usize, flaw: Flaw, n: usize) -> MeshError
+    ensures { verdict_of (Err result) ≡ tell n t (Err flaw) }
 {
-    match f {
-        Finding::Past(i) => Verdict::IndexOutOfRange(t, i, n),
-        Finding::Flat => Verdict::DegenerateTriangle(t),
-        Finding::Fine => Verdict::Sound,
+    match flaw {
+        Flaw::Past(i) => MeshError::IndexOutOfRange(t, i, n),
+        Flaw::Flat => MeshError::DegenerateTriangle(t),
     }
 }
 
 // The verdict on sound lists that have indices and whose vertices are finite.
-fn of_triangles(vertices: &[f32], indices: &[u32]) -> Verdict
-    ensures { read_verdict result ≡ taken (of_triangles vertices.now indices.now) }
+fn of_triangles(vertices: &[f32], indices: &[u32]) -> Result<(), MeshError>
+    ensures { verdict_of result ≡ of_triangles vertices.now indices.now }
 {
     let t = first_faulty(vertices, indices);
-    if t < (indices.len() + 2) / 3 {
-        return verdict_of(t, examine(vertices, indices, t), vertices.len() / 3);
+    if t < indices.len().div_ceil(3) {
+        if let Err(flaw) = examine(vertices, indices, t) {
+            return Err(error_of(t, flaw, vertices.len() / 3));
+        }
     }
-    Verdict::Sound
+    Ok(())
 }
 
 // The verdict on sound lists.
-fn of_lists(vertices: &[f32], indices: &[u32]) -> Verdict
-    ensures { read_verdict result ≡ taken (validity_of vertices.now indices.now) }
+fn of_lists(vertices: &[f32], indices: &[u32]) -> Result<(), MeshError>
+    ensures { verdict_of result ≡ validity_of vertices.now indices.now }
 {
-    if indices.len() == 0 {
-        return Verdict::Empty;
+    if indices.is_empty() {
+        return Err(MeshError::Empty);
     }
     let v = first_unsound(vertices);
     if v < vertices.len() / 3 {
-        return Verdict::NonFiniteVertex(v);
+        return Err(MeshError::NonFiniteVertex(v));
     }
     of_triangles(vertices, indices)
 }
 
-// The verdict on a mesh in lent lists: the first finding in the order of document 01.
-pub fn validate(vertices: &[f32], normals: &[f32], indices: &[u32], spans: &[u32]) -> Verdict
-    ensures { let m = mesh_lists vertices.now normals.now indices.now spans.now in
-        read_verdict result ≡ judge (mesh_fault m) (taken (validity_of m.vertices m.indices)) }
+// The verdict on a mesh in lent lists: what is wrong with it, the first finding in the order of document 01.
+pub fn validate(mesh: Mesh) -> Result<Result<(), MeshError>, Refusal>
+    ensures { let m = lists_of mesh.entry in read_verdict result ≡ judge (mesh_fault m) (taken (validity_of m.vertices m.indices)) }
 {
-    let f = mesh_fault(vertices, normals, indices, spans);
-    match f {
-        Check::Faulty(r) => Verdict::Refused(r),
-        Check::Fine => of_lists(vertices, indices),
-    }
+    mesh.check()?;
+    Ok(of_lists(mesh.vertices, mesh.indices))
 }

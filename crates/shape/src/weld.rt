@@ -14,9 +14,9 @@ ghost use Rattle.shape.specs.Lists.{max_lane_points};
 ghost use Rattle.shape.specs.Strip.{step_of, keeps_step, keeps, end_kept, kept_of};
 
 use crate::lists::point_at;
-use crate::memory::put_word;
+use crate::memory::put;
 use rounding::compare::root_above_tenth;
-use rounding::extremes::max32;
+use rounding::extremes::max;
 use rounding::root::sqrt32;
 
 // How far a lane is welded: how many points are kept but for the last, the last, and the square of the
@@ -30,25 +30,23 @@ struct Welding {
 
 // Is a step of the square `square` clearly above a quarter of one of the square `last`, so that no root
 // is taken? Steps of about one length, from 0.27 to 22, always are.
+#[tactic(auto, using(crate::proofs::Welds::keeps_one, crate::proofs::Welds::keeps_two, crate::proofs::Welds::keeps_three, crate::proofs::Welds::keeps_four))]
 fn clearly_kept(square: f32, last: f32) -> bool
     ensures { result ≡ true → keeps_step (sqrt_of binary32 last) (sqrt_of binary32 square) ≡ true }
 {
-    if last >= 0.0 {
-        if last <= 1.0 {
-            return square >= 0.07;
-        }
-        if last <= 8.0 {
-            return square >= 0.6;
-        }
-        if last <= 64.0 {
-            return square >= 5.0;
-        }
-        if last <= 512.0 {
-            return square >= 40.0;
-        }
+    if !(last >= 0.0) {
         return false;
     }
-    false
+    if last <= 1.0 {
+        return square >= 0.07;
+    }
+    if last <= 8.0 {
+        return square >= 0.6;
+    }
+    if last <= 64.0 {
+        return square >= 5.0;
+    }
+    last <= 512.0 && square >= 40.0
 }
 
 // No step up to this length is a sample, whatever stands around it.
@@ -59,19 +57,17 @@ const STUB_FRACTION: f32 = 0.25;
 
 // Is a point kept, whose step from the last kept has the square `square`, where the step to that has
 // the square `last`? Most points that go are within 0.1, which takes no root to see either.
+#[tactic(auto, using(crate::proofs::Strips::near), unfolding(crate::specs::Strip::keeps_step))]
 fn is_kept(square: f32, last: f32) -> bool
     ensures { result ≡ keeps_step (sqrt_of binary32 last) (sqrt_of binary32 square) }
 {
-    if clearly_kept(square, last) {
-        return true;
-    }
-    if root_above_tenth(square) {
-        return sqrt32(square) > max32(STUB_FRACTION * sqrt32(last), WELD_FLOOR);
-    }
-    false
+    clearly_kept(square, last)
+        || root_above_tenth(square)
+            && sqrt32(square) > max(STUB_FRACTION * sqrt32(last), WELD_FLOOR)
 }
 
 // Point i, after those that `h` tells of.
+#[tactic(auto, using(crate::proofs::Laws::Memory::put_none), unfolding(crate::specs::Strip::keeps, crate::specs::Strip::step_of, vector::specs::Coords::length_of))]
 fn weld_step(points: &[f32], kept: &mut [u32], h: Welding, i: usize) -> Welding
     requires { (h.last < i) × (i < 2 ^ 32) × (h.count < length kept.old) × (h.count < 2 ^ 32) }
     ensures step_value { let k = keeps points.now h.last (sqrt_of binary32 h.square) i in
@@ -79,32 +75,31 @@ fn weld_step(points: &[f32], kept: &mut [u32], h: Welding, i: usize) -> Welding
     ensures put { let k = keeps points.now h.last (sqrt_of binary32 h.square) i in
         Put kept.old kept.new h.count (if k then h.last ∷ [] else []) result.count }
 {
-    let d = point_at(points, i).sub(point_at(points, h.last));
+    let d = point_at(points, i) - point_at(points, h.last);
     let square = d.length_squared();
     if is_kept(square, h.square) {
-        put_word(kept, h.count, h.last);
         return Welding {
-            count: h.count + 1,
+            count: put(kept, h.count, [h.last as u32]),
             last: i,
-            square: square,
+            square,
         };
     }
     h
 }
 
 // Whether the ends of a lane, points 0 and e, lie under 1e-6 apart.
+#[tactic(auto, unfolding(crate::specs::Strip::step_of))]
 fn ends_meet(points: &[f32], e: usize) -> bool
     requires { e < 2 ^ 32 }
     ensures { result ≡ lt (step_of points.now 0 e) micro }
 {
-    point_at(points, e)
-        .sub(point_at(points, 0))
-        .length_below_micro()
+    (point_at(points, e) - point_at(points, 0)).length_below_micro()
 }
 
 // The final point e takes the place of the last kept, with its tangent, width and bank, so that the lane
 // ends where the next begins and no seam opens. A lane welded down to one point has both its ends, as one
 // thin quad, if they are apart; a lane of no length has no surface.
+#[tactic(auto, unfolding(crate::specs::Strip::end_kept))]
 fn weld_end(points: &[f32], kept: &mut [u32], m: usize, e: usize) -> usize
     requires { (m < max_lane_points) × (length kept.old ≡ max_lane_points) × (e < 2 ^ 32) }
     ensures put { Put kept.old kept.new m (end_kept m (lt (step_of points.now 0 e) micro) e) result }
@@ -114,12 +109,9 @@ fn weld_end(points: &[f32], kept: &mut [u32], m: usize, e: usize) -> usize
         if ends_meet(points, e) {
             return 0;
         }
-        put_word(kept, 0, 0);
-        put_word(kept, 1, e);
-        return 2;
+        return put(kept, 0, [0, e as u32]);
     }
-    put_word(kept, m, e);
-    m + 1
+    put(kept, m, [e as u32])
 }
 
 // The numbers of the points kept, written into `kept`, and how many they are.
@@ -137,10 +129,8 @@ pub(crate) fn weld(points: &[f32], kept: &mut [u32]) -> usize
         last: 0,
         square: 0.0,
     };
-    let mut i: usize = 0;
-    while i + 1 < n {
-        h = weld_step(points, kept, h, i + 1);
-        i += 1;
+    for i in 1..n {
+        h = weld_step(points, kept, h, i);
     }
     weld_end(points, kept, h.count, n - 1)
 }

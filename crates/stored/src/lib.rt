@@ -3,6 +3,7 @@
 // beside them.
 #![tactic(auto)]
 
+pub mod answer;
 pub mod lent;
 pub mod names;
 pub mod numbers;

@@ -1,49 +1,8 @@
 // Words from a reader, as standard input, the low byte first, however short the reads are.
-ghost use Rattle.std.specs.Prelude.{◌≡◌, ◌≤◌, length};
-ghost use Rattle.stored.specs.Words.{word_at, get_word, set_word};
+ghost use Rattle.std.specs.Prelude.{◌≡◌, ◌≤◌, length, slice_set, IfSome};
+ghost use Rattle.stored.specs.Words.{word_at, get_word};
 
 use std::io::Read;
-
-// Where the reading stands: `at` of the `held` words in the buffer are handed out, `read` in all, and
-// `spare` bytes, too few for a word, ended the input.
-#[derive(Clone, Copy)]
-pub struct Cursor {
-    pub at: usize,
-    pub held: usize,
-    pub spare: usize,
-    pub read: u64,
-}
-
-// The next word, if there is one, and where the reading stands after it.
-#[derive(Clone, Copy)]
-pub struct Step {
-    pub found: bool,
-    pub word: u32,
-    pub place: Cursor,
-}
-
-// A list that was read: how many words it has, and whether all came and had room.
-#[derive(Clone, Copy)]
-pub struct Taken {
-    pub whole: bool,
-    pub count: usize,
-    pub place: Cursor,
-}
-
-pub fn start() -> Cursor {
-    Cursor {
-        at: 0,
-        held: 0,
-        spare: 0,
-        read: 0,
-    }
-}
-
-fn wide(x: u8) -> u32
-    ensures { result ≡ x }
-{
-    x as u32
-}
 
 // Word i of the bytes, and 0 past their last whole word.
 #[tactic(auto, unfolding(crate::specs::Words::word_at, crate::specs::Words::four_bytes))]
@@ -52,8 +11,8 @@ pub fn word_at(bytes: &[u8], i: usize) -> u32
 {
     if i < bytes.len() / 4 {
         let k = i * 4;
-        let low = wide(bytes[k]) + wide(bytes[k + 1]) * 0x100;
-        let high = wide(bytes[k + 2]) + wide(bytes[k + 3]) * 0x100;
+        let low = bytes[k] as u32 + bytes[k + 1] as u32 * 0x100;
+        let high = bytes[k + 2] as u32 + bytes[k + 3] as u32 * 0x100;
         return low + high * 0x1_0000;
     }
     0
@@ -66,35 +25,12 @@ pub fn word(list: &[u32], i: usize) -> u32
     if i < list.len() { list[i] } else { 0 }
 }
 
-// Sets word i of a list, and nothing past its end.
-pub fn put(list: &mut [u32], i: usize, w: u32)
-    ensures { list.new ≡ set_word list.old i w }
+// Sets element i of a list, and nothing past its end.
+pub fn put<T: Copy>(list: &mut [T], i: usize, x: T)
+    ensures { list.new ≡ slice_set list.old i x }
 {
     if i < list.len() {
-        list[i] = w;
-    }
-}
-
-// The next word of those in the buffer, if one is left there.
-fn buffered(bytes: &[u8], p: Cursor) -> Step {
-    if p.at < p.held {
-        let word = word_at(bytes, p.at);
-        let place = Cursor {
-            at: p.at + 1,
-            held: p.held,
-            spare: p.spare,
-            read: p.read.wrapping_add(1),
-        };
-        return Step {
-            found: true,
-            word,
-            place,
-        };
-    }
-    Step {
-        found: false,
-        word: 0,
-        place: p,
+        list[i] = x;
     }
 }
 
@@ -113,80 +49,73 @@ fn read_full(input: &mut impl Read, bytes: &mut [u8]) -> usize
     done
 }
 
-// Fills the buffer anew. Its length is a multiple of 4, and it is left short only where the input ends or a
-// read fails, so no word lies across two reads.
-fn fill(input: &mut impl Read, bytes: &mut [u8], p: Cursor) -> Cursor {
-    let got = read_full(input, bytes);
-    Cursor {
-        at: 0,
-        held: got / 4,
-        spare: got % 4,
-        read: p.read,
-    }
+// How many bytes are read at once: a multiple of 4, so that no word lies across two reads.
+const BUFFER: usize = 65536;
+
+// The words of an input: `at` of the `held` words in the buffer are handed out, `read` in all, and `spare`
+// bytes, too few for a word, ended the input. The buffer is left short only where the input ends or a read
+// fails.
+#[derive(Drop)]
+pub struct Words<R> {
+    input: R,
+    buffer: [u8; BUFFER],
+    at: usize,
+    held: usize,
+    spare: usize,
+    read: u64,
 }
 
-// The next word. Where bytes are left over the input is at its end.
-pub fn next(input: &mut impl Read, bytes: &mut [u8], p: Cursor) -> Step {
-    if p.at < p.held {
-        return buffered(bytes, p);
-    }
-    if p.spare > 0 {
-        return Step {
-            found: false,
-            word: 0,
-            place: p,
-        };
-    }
-    let q = fill(input, bytes, p);
-    buffered(bytes, q)
-}
-
-// Reads n words to the start of `list`.
-fn words(
-    input: &mut impl Read,
-    bytes: &mut [u8],
-    list: &mut [u32],
-    n: usize,
-    from: Cursor,
-) -> Taken {
-    let mut place = from;
-    for i in 0..n {
-        let step = next(input, bytes, place);
-        place = step.place;
-        if !step.found {
-            return Taken {
-                whole: false,
-                count: i,
-                place,
-            };
+impl<R: Read> Words<R> {
+    pub fn new(input: R) -> Words<R> {
+        Words {
+            input,
+            buffer: [0; BUFFER],
+            at: 0,
+            held: 0,
+            spare: 0,
+            read: 0,
         }
-        put(list, i, step.word);
     }
-    Taken {
-        whole: true,
-        count: n,
-        place,
-    }
-}
 
-// Reads a count and that many words to the start of `list`.
-pub fn list(input: &mut impl Read, bytes: &mut [u8], list: &mut [u32], from: Cursor) -> Taken {
-    let step = next(input, bytes, from);
-    let place = step.place;
-    let n = step.word as usize;
-    if !step.found {
-        return Taken {
-            whole: false,
-            count: 0,
-            place,
-        };
+    // How many words are read.
+    pub fn count(&self) -> u64 {
+        self.read
     }
-    if n > list.len() {
-        return Taken {
-            whole: false,
-            count: 0,
-            place,
-        };
+
+    // Did the input end within a word?
+    pub fn is_torn(&self) -> bool {
+        self.spare > 0
     }
-    words(input, bytes, list, n, place)
+
+    // The next word, if there is one. Where bytes are left over the input is at its end.
+    pub fn word(&mut self) -> Option<u32> {
+        if self.at >= self.held && self.spare == 0 {
+            let Words { input, buffer, .. } = self;
+            let got = read_full(input, buffer);
+            self.at = 0;
+            self.held = got / 4;
+            self.spare = got % 4;
+        }
+        if self.at >= self.held {
+            return None;
+        }
+        let w = word_at(&self.buffer, self.at);
+        self.at += 1;
+        self.read = self.read.wrapping_add(1);
+        Some(w)
+    }
+
+    // Reads a count and that many words to the start of `list`: how many, if all came and had room.
+    pub fn list(&mut self, list: &mut [u32]) -> Option<usize>
+        ensures { IfSome result (λ n. n ≤ length list.new) }
+    {
+        let n = self.word()? as usize;
+        if n > list.len() {
+            return None;
+        }
+        for i in 0..n {
+            put(list, i, self.word()?);
+        }
+        Some(n)
+    }
 }

@@ -1,37 +1,36 @@
 // The lines that are printed.
 use std::io;
+use std::ops::Add;
 
 // The numbers that a line gives.
-#[derive(Clone, Copy)]
+#[derive(Clone, Copy, Default)]
 pub struct Tally {
     pub cases: u64,
     pub differ: u64,
     pub skipped: u64,
 }
 
-pub fn nothing() -> Tally {
-    Tally {
-        cases: 0,
-        differ: 0,
-        skipped: 0,
-    }
-}
-
 // Both tallies in one. The numbers are counts of what was read, so that none comes near to wrapping.
-pub fn both(a: Tally, b: Tally) -> Tally {
-    Tally {
-        cases: a.cases.wrapping_add(b.cases),
-        differ: a.differ.wrapping_add(b.differ),
-        skipped: a.skipped.wrapping_add(b.skipped),
+impl Add for Tally {
+    type Output = Tally;
+
+    fn add(self, other: Tally) -> Tally {
+        Tally {
+            cases: self.cases.wrapping_add(other.cases),
+            differ: self.differ.wrapping_add(other.differ),
+            skipped: self.skipped.wrapping_add(other.skipped),
+        }
     }
 }
 
 fn counts(out: &impl Print, t: Tally) -> io::Result<()> {
-    let cases = t.cases;
-    let differ = t.differ;
+    let Tally {
+        cases,
+        differ,
+        skipped,
+    } = t;
     print!(out; ": {cases} cases, {differ} differ")?;
-    if t.skipped > 0 {
-        let skipped = t.skipped;
+    if skipped > 0 {
         print!(out; ", {skipped} skipped")?;
     }
     Ok(())

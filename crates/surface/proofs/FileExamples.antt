@@ -1,5 +1,5 @@
 -- Small cases of the surface file's definitions, computed: document 01's sample, and what is wrong with it when it is damaged. Assumes nothing.
-use Rattle.std.specs.Prelude.{◌≡◌, refl, List, [], ◌∷◌, ◌++◌, ℕ, set, take}
+use Rattle.std.specs.Prelude.{◌≡◌, refl, List, [], ◌∷◌, ◌++◌, ℕ, set, take, Some}
 use Rattle.shape.specs.Refusal.{fine, fault, taken, refused}
 use Rattle.surface.specs.File.{encode, words_of, bytes_of, held_fault, read_of}
 use Rattle.surface.specs.Held.{indices_in, lane_in}
@@ -24,7 +24,7 @@ unfolding held_fault
 sound = refl
 
 -- "lane 5", and the corners in a row
-lanes : lane_in sample 1 ≡ 5
+lanes : lane_in sample 1 ≡ Some 5
 unfolding lane_in
 lanes = refl
 

@@ -1,5 +1,5 @@
 -- Computed cases of the printed text: document 01's lines, numbers at their ends, and files without a mesh. Assumes nothing.
-use Rattle.std.specs.Prelude.{◌≡◌, refl, [], ◌∷◌}
+use Rattle.std.specs.Prelude.{◌≡◌, refl, [], ◌∷◌, Some, None}
 use Rattle.std.specs.Float.Ieee as Ieee
 use Rattle.rounding.specs.Stored.{stored_of}
 use Rattle.vector.specs.declared.coords.Vector.{Vector}
@@ -13,7 +13,7 @@ use Rattle.surface.specs.Report.{report_of}
 up : Vector
 up = record { x = single 0; y = single 0; z = single 0x3f80_0000 }
 
-found : found_line 0 (single 0x4000_0000) up 0 5 ≡ ascii "at 0 height 40000000 normal 00000000 00000000 3f800000 triangle 0 lane 5\n"
+found : found_line 0 (single 0x4000_0000) up 0 (Some 5) ≡ ascii "at 0 height 40000000 normal 00000000 00000000 3f800000 triangle 0 lane 5\n"
 unfolding up found_line normal_text lane_text digits_of hexadecimal hex_digit stored_of Ieee.of_bits Ieee.to_bits Ieee.eq
 found = refl
 
@@ -29,7 +29,7 @@ refused : refused_line 5 3 ≡ ascii "refused 5 at 3\n"
 unfolding refused_line digits_of
 refused = refl
 
-no_lane : lane_text 0 ≡ ascii " lane -"
+no_lane : lane_text None ≡ ascii " lane -"
 unfolding lane_text
 no_lane = refl
 

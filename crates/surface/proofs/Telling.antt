@@ -2,7 +2,7 @@
 use mathlib.Core.Path.{◌≡◌, refl, sym, ap, ◌∙◌}
 use mathlib.Core.Bool.{cond}
 use mathlib.Core.List.{List}
-use Prim.Native.Nat.{ℕ, ◌+◌, ◌*◌, ◌≤◌, ◌<◌, ◌^◌}
+use Prim.Native.Nat.{ℕ, ◌+◌, ◌*◌, ◌≤◌, ◌<◌}
 use native.Mathlib.Nat.{add-zero}
 use native.Mathlib.Omega.{arith}
 use lib.Dec.{T}
@@ -21,14 +21,14 @@ use Rattle.lookup.specs.Batch.{record_words, record_of}
 use Rattle.lookup.proofs.Laws.Batch.{record_width}
 use Rattle.surface.specs.declared.held.Sizes.{Sizes}
 use Rattle.surface.specs.declared.report.LineTotals.{LineTotals}
-use Rattle.surface.specs.declared.report.Line.{Line}
-use Rattle.surface.specs.declared.report.Line.TheVariants.{Found, None}
+use Rattle.std.specs.Prelude.{Option, Some, None}
+use Rattle.surface.specs.declared.text.FoundLine.{FoundLine}
 use Rattle.surface.specs.Held.{how_many, count_kind, sizes_of, lane_in, question_at}
-use Rattle.surface.specs.Text.{digits_of, lane_text, found_line, none_line, asked_line}
+use Rattle.surface.specs.Text.{digits_of, lane_text, asked_line}
 use Rattle.surface.specs.Report.{mesh_in, index_in, given, sample_at, answered, line_of, line_at, answered_at, lines_of}
-use Rattle.surface.specs.ReportSteps.{record_in, records_in, Asked, text_of, is_found, LineFits, Tells, Totalled}
+use Rattle.surface.specs.ReportSteps.{record_in, records_in, text_of, is_found, Tells, Totalled}
 use Rattle.surface.proofs.Laws.Held.{how_many_next}
-use Rattle.surface.proofs.Laws.Text.{found_size, none_size, asked_size}
+use Rattle.surface.proofs.Laws.Text.{found_size, none_size}
 use Rattle.surface.proofs.Laws.Report.{kind_most}
 use Rattle.surface.proofs.Singles.{single_height, single_normal}
 
@@ -67,6 +67,12 @@ module _ (ws : List ℕ) where
       go (taken s) q = ap taken q
       go (refused number place) q = absurd (let z : ◌≡◌ {A = ℕ} 0 1 = cc in omega arith)
 
+-- a file's words, how many records of each kind they have, and the records of their questions
+pub record Asked (ws : List ℕ) (sizes : Sizes) (rs : List ℕ) : Type 0 where
+  pub few : length ws ≤ 16384
+  pub sized : sizes ≡ sizes_of ws
+  pub records : rs ≡ records_in ws
+
 module _ {ws : List ℕ} {sizes : Sizes} {rs : List ℕ} (a : Asked ws sizes rs) where
   pub asked_are : sizes.questions ≡ count_kind ws 3
   unfolding sizes_of
@@ -77,6 +83,9 @@ module _ {ws : List ℕ} {sizes : Sizes} {rs : List ℕ} (a : Asked ws sizes rs)
 
   pub asked_length : length rs ≡ record_words * sizes.questions
   asked_length = ap length a.records ∙ records_length ws ∙ ap (λ (n : ℕ). record_words * n) (sym asked_are)
+
+  pub record_whole : (k : ℕ) → k < sizes.questions → record_words * k + record_words ≤ length rs
+  record_whole k h = omega (arith, asked_length)
 
   module _ {k : ℕ} (h : k < sizes.questions) where
     word_is : (j : ℕ) → j < record_words → get_or rs (record_words * k + j) 0 ≡ get_or (record_in ws k) j 0
@@ -93,81 +102,52 @@ module _ {ws : List ℕ} {sizes : Sizes} {rs : List ℕ} (a : Asked ws sizes rs)
       where
         go : (s : Sample) → sample_at ws k ≡ s → get_or (record_of (taken s)) 0 0 ≡ 0 → Tells ws k None
         go (hit g n t d) e q = absurd (let w : ◌≡◌ {A = ℕ} 1 0 = q in omega arith)
-        go miss e q = record { text = rw e; answer = rw e; words = record { small = λ w. absurd (let v : ◌≡◌ {A = ℕ} 0 1 = cc in omega arith) } }
+        go miss e q = record { text = rw e; answer = rw e }
 
-    pub tells_found : {g : Float} {n : Vector} {t lane : ℕ} → (get_or rs (record_words * k) 0 ≡ 0 → ⊥) → g ≡ of_bits binary32 (get_or rs (record_words * k + 1) 0)
-        → n.x ≡ of_bits binary32 (get_or rs (record_words * k + 2) 0) → n.y ≡ of_bits binary32 (get_or rs (record_words * k + 3) 0)
-        → n.z ≡ of_bits binary32 (get_or rs (record_words * k + 4) 0) → (t ≡ get_or rs (record_words * k + 5) 0) × (t < 2 ^ 32) → (lane ≡ lane_in ws t) × (lane < 2 ^ 32)
-        → Tells ws k (Found g n t lane)
+    pub tells_found : (f : FoundLine) → (get_or rs (record_words * k) 0 ≡ 0 → ⊥) → f.height ≡ of_bits binary32 (get_or rs (record_words * k + 1) 0)
+        → f.normal.x ≡ of_bits binary32 (get_or rs (record_words * k + 2) 0) → f.normal.y ≡ of_bits binary32 (get_or rs (record_words * k + 3) 0)
+        → f.normal.z ≡ of_bits binary32 (get_or rs (record_words * k + 4) 0) → f.triangle ≡ get_or rs (record_words * k + 5) 0 → f.lane ≡ lane_in ws f.triangle
+        → Tells ws k (Some f)
     unfolding record_in record_of text_of is_found line_at line_of answered_at answered
-    tells_found {g} {n} {t} {lane} z eg ex ey ez et el =
+    tells_found f z eg ex ey ez et el =
         go (sample_at ws k) refl (λ q. z (first_is ∙ q)) (word_is 1 (omega arith)) (word_is 2 (omega arith)) (word_is 3 (omega arith))
         (word_is 4 (omega arith)) (word_is 5 (omega arith))
       where
-        small : {a : Float} {b : Vector} {c d : ℕ} → Found g n t lane ≡ Found a b c d → (c < 2 ^ 32) × (d < 2 ^ 32)
-        small {a} {b} {c} {d} p = let u : t ≡ c = cc in let v : lane ≡ d = cc in (rw u at et.1, rw v at el.1)
-
         back : (v : Float) → T (fits binary32 v) → {w u : ℕ} → w ≡ u → u ≡ to_bits binary32 v → of_bits binary32 w ≡ v
         back v f p q = ap (of_bits binary32) (p ∙ q) ∙ of_bits-to_bits binary32 v f
 
         go : (s : Sample) → sample_at ws k ≡ s → (get_or (record_of (taken s)) 0 0 ≡ 0 → ⊥)
             → get_or rs (record_words * k + 1) 0 ≡ get_or (record_of (taken s)) 1 0 → get_or rs (record_words * k + 2) 0 ≡ get_or (record_of (taken s)) 2 0
             → get_or rs (record_words * k + 3) 0 ≡ get_or (record_of (taken s)) 3 0 → get_or rs (record_words * k + 4) 0 ≡ get_or (record_of (taken s)) 4 0
-            → get_or rs (record_words * k + 5) 0 ≡ get_or (record_of (taken s)) 5 0 → Tells ws k (Found g n t lane)
+            → get_or rs (record_words * k + 5) 0 ≡ get_or (record_of (taken s)) 5 0 → Tells ws k (Some f)
         go (hit i m u d) e q w1 w2 w3 w4 w5 =
             let top = was_hit ws k e in
-            let f = single_height (mesh_in ws) (index_in ws) (question_at ws k).x (question_at ws k).y top in
+            let h = single_height (mesh_in ws) (index_in ws) (question_at ws k).x (question_at ws k).y top in
             let v = single_normal (mesh_in ws) (index_in ws) (question_at ws k).x (question_at ws k).y top in
-            let eh : g ≡ i = eg ∙ back i f w1 refl in
-            let mx : n.x ≡ m.x = ex ∙ back m.x v.0 w2 refl in
-            let my : n.y ≡ m.y = ey ∙ back m.y v.1 w3 refl in
-            let mz : n.z ≡ m.z = ez ∙ back m.z v.2 w4 refl in
-            let em : n ≡ m = vector n m mx my mz in
-            let eu : t ≡ u = et.0 ∙ w5 in
-            let ll : lane ≡ lane_in ws u = el.0 ∙ ap (lane_in ws) eu in
-            record {
-              text = rw (e, eh, em, eu, ll);
-              answer = rw e;
-              words = record { small = λ p. small p };
-            }
+            let eh : f.height ≡ i = eg ∙ back i h w1 refl in
+            let mx : f.normal.x ≡ m.x = ex ∙ back m.x v.0 w2 refl in
+            let my : f.normal.y ≡ m.y = ey ∙ back m.y v.1 w3 refl in
+            let mz : f.normal.z ≡ m.z = ez ∙ back m.z v.2 w4 refl in
+            let em : f.normal ≡ m = vector f.normal m mx my mz in
+            let eu : f.triangle ≡ u = et ∙ w5 in
+            let ll : f.lane ≡ lane_in ws u = el ∙ ap (lane_in ws) eu in
+            record { text = rw (e, eh, em, eu, ll); answer = rw e }
         go miss e q w1 w2 w3 w4 w5 = absurd (q refl)
 
 -- ---- one line put, and counted
 
-module _ (k : ℕ) {line : Line} where
-  pub found_room : {h : Float} {v : Vector} {t lane : ℕ} (at room : ℕ) → line ≡ Found h v t lane → LineFits line → k < 2 ^ 32 → at + length (text_of k line) ≤ room
-      → ((k < 2 ^ 32) × (t < 2 ^ 32) × (lane < 2 ^ 32)) × (at + 64 + length (digits_of 9 k) + length (digits_of 9 t) + length (lane_text lane) ≤ room)
-  unfolding text_of
-  found_room {h} {v} {t} {lane} at room e w small g =
-      let q = rw e at g in
-      ((small, (w.small e).0, (w.small e).1), omega (arith, q, found_size k h v t lane))
+-- so long is a line
+pub found_long : (k : ℕ) (f : FoundLine) → length (text_of k (Some f)) ≡ 64 + length (digits_of 9 k) + length (digits_of 9 f.triangle) + length (lane_text f.lane)
+unfolding text_of
+found_long k f = found_size k f.height f.normal f.triangle f.lane
 
-  pub none_room : (at room : ℕ) → line ≡ None → k < 2 ^ 32 → at + length (text_of k line) ≤ room → (at + 9 + length (digits_of 9 k) ≤ room) × (k < 2 ^ 32)
-  unfolding text_of
-  none_room at room e small g = let q = rw e at g in (omega (arith, q, none_size k), small)
-
-  pub puts_found : {h : Float} {v : Vector} {t lane at r : ℕ} {m m' : List ℕ} → line ≡ Found h v t lane → Put m m' at (found_line k h v t lane) r → Put m m' at (text_of k line) r
-  unfolding text_of
-  puts_found e p = rw e p
-
-  pub puts_none : {at r : ℕ} {m m' : List ℕ} → line ≡ None → Put m m' at (none_line k) r → Put m m' at (text_of k line) r
-  unfolding text_of
-  puts_none e p = rw e p
-
-module _ (k : ℕ) (totals : LineTotals) {line : Line} {n : ℕ} where
-  pub counts_found : {h : Float} {v : Vector} {t lane : ℕ} → line ≡ Found h v t lane → n ≡ 64 + length (digits_of 9 k) + length (digits_of 9 t) + length (lane_text lane)
-      → (totals.size + n ≡ totals.size + length (text_of k line)) × (totals.found + 1 ≡ totals.found + cond (is_found line) 1 0)
-  unfolding text_of is_found
-  counts_found {h} {v} {t} {lane} e f = rw e (ap (λ (i : ℕ). totals.size + i) (f ∙ sym (found_size k h v t lane)), refl)
-
-  pub counts_none : line ≡ None → n ≡ 9 + length (digits_of 9 k)
-      → (totals.size + n ≡ totals.size + length (text_of k line)) × (totals.found ≡ totals.found + cond (is_found line) 1 0)
-  unfolding text_of is_found
-  counts_none e f = rw e (ap (λ (i : ℕ). totals.size + i) (f ∙ sym (none_size k)), sym (add-zero totals.found))
+pub none_long : (k : ℕ) → length (text_of k None) ≡ 9 + length (digits_of 9 k)
+unfolding text_of
+none_long k = none_size k
 
 -- ---- all lines
 
-module _ (ws : List ℕ) (k : ℕ) {line : Line} (t : Tells ws k line) where
+module _ (ws : List ℕ) (k : ℕ) {line : Option FoundLine} (t : Tells ws k line) where
   pub next_size : (m n : ℕ) → m ≡ length (gather (line_at ws) k) → n ≡ m + length (text_of k line) → n ≡ length (gather (line_at ws) (k + 1))
   next_size m n e f = rw (gather_next (line_at ws) k, length-append) (f ∙ rw (e, t.text))
 
@@ -198,20 +178,16 @@ module _ (ws : List ℕ) where
   all_length = length-append (gather (line_at ws) (count_kind ws 3)) asked
 
   -- the length of the text
-  pub text_size : {totals : LineTotals} {q n m : ℕ} → Totalled ws totals → q ≡ count_kind ws 3 → n ≡ 14 + length (digits_of 9 q) + length (digits_of 9 totals.found)
+  pub text_size : {totals : LineTotals} {q n m : ℕ} → Totalled ws totals → q ≡ count_kind ws 3 → n ≡ length (asked_line q totals.found)
       → m ≡ totals.size + n → m ≡ length (lines_of ws)
-  text_size {totals} {q} {n} {m} t e f g =
-      let s = asked_size (count_kind ws 3) (how_many (answered_at ws) (count_kind ws 3)) in
-      let u = rw (e, t.answers) at f in
-      omega (arith, all_length, s, u, g, t.lengths)
+  text_size {totals} {q} {n} {m} t e f g = let u = rw (e, t.answers) at f in omega (arith, all_length, u, g, t.lengths)
 
   -- and the last line
   pub last_fits : {q found at room : ℕ} {m₀ m : List ℕ} → Put m₀ m 0 (gather (line_at ws) q) at → q ≡ count_kind ws 3
-      → found ≡ how_many (answered_at ws) (count_kind ws 3) → length (lines_of ws) ≤ room → at + 14 + length (digits_of 9 q) + length (digits_of 9 found) ≤ room
+      → found ≡ how_many (answered_at ws) (count_kind ws 3) → length (lines_of ws) ≤ room → at + length (asked_line q found) ≤ room
   last_fits {q} {found} {at} p e f l =
-      let s = asked_size (count_kind ws 3) (how_many (answered_at ws) (count_kind ws 3)) in
       let d : at ≡ 0 + length (gather (line_at ws) (count_kind ws 3)) = rw e at p.ends in
-      rw (e, f) (omega (arith, all_length, s, d))
+      rw (e, f) (omega (arith, all_length, d))
 
   pub last_line : {q found at r : ℕ} {m₀ m m' : List ℕ} → Put m₀ m 0 (gather (line_at ws) q) at → q ≡ count_kind ws 3
       → found ≡ how_many (answered_at ws) (count_kind ws 3) → Put m m' at (asked_line q found) r → Put m₀ m' 0 (lines_of ws) r

@@ -1,26 +1,21 @@
--- Decimal digits one after another, how many there are, and a byte put after others. Assumes nothing.
-use mathlib.Core.Path.{◌≡◌, refl}
+-- Decimal digits one after another, how many there are, and bytes put over others. Assumes nothing.
+use borrow.Rule.Slice.PartMut.{put_mid}
+use mathlib.Core.Path.{◌≡◌, refl, sym}
 use mathlib.Core.List.{List, [], ◌∷◌, ◌++◌}
 use Prim.Native.Nat.{ℕ, zero, suc, ◌+◌, ◌*◌, ◌/◌, ◌%◌, ◌^◌, ◌≤◌, ◌<◌}
 use native.Mathlib.Nat.{pow-suc}
-use native.Mathlib.Numerals.{add-one}
 use native.Mathlib.Omega.{arith}
-use lib.ListN.{length, take, get_or, set}
-use lib.Seq.{take-suc}
+use Rattle.std.proofs.Common.{drop-drop, append_assoc, ◌∙◌}
+use lib.ListN.{length, take, drop}
+use lib.Seq.{sets-eq}
 use borrow.Author.Tests.{lt-ltb, le-ltb}
 use Rattle.shape.specs.Memory.{Put}
 use Rattle.shape.proofs.Laws.Memory.{put_then}
-use Rattle.surface.specs.Text.{ascii, digit, digits_of, hex_digit, numbered, lane_text}
+use Rattle.surface.specs.Text.{digit, digits_of, hex_digit}
 
-pub one_put : (m : List ℕ) (at b : ℕ) → Put m (set m at b) at (b ∷ []) (at + 1)
-one_put m at b = record { memory = refl; ends = refl }
-
--- one byte more of a list that is put
-pub byte_turn : (bs m₀ m : List ℕ) (at i : ℕ) → i < length bs → Put m₀ m at (take i bs) (at + i)
-    → Put m₀ (set m (at + i) (get_or bs i 0)) at (take (i + 1) bs) (at + (i + 1))
-byte_turn bs m₀ m at i h p =
-    let e : at + (i + 1) ≡ at + i + 1 = omega arith in
-    rw (e, add-one i, take-suc bs i 0 h) (put_then p (one_put m (at + i) (get_or bs i 0)))
+-- bytes that are written over others are put
+pub put_over : (out bs : List ℕ) (at k : ℕ) → k ≡ length bs → at + length bs ≤ length out → Put out (put_mid at k out bs) at bs (at + length bs)
+put_over out bs at k e h = record { memory = rw (e, drop-drop) (sym (sets-eq bs out at h ∙ append_assoc (take at out) bs (drop (at + length bs) out))); ends = refl }
 
 -- ---- decimal digits
 
@@ -50,15 +45,3 @@ hex_low d h = rw (lt-ltb d 10 h)
 pub hex_high : (d : ℕ) → 10 ≤ d → 87 + d ≡ hex_digit d
 unfolding hex_digit
 hex_high d h = rw (le-ltb d 10 h)
-
--- ---- a lane
-
-pub lane_none : {m m' : List ℕ} {at r : ℕ} (lane : ℕ) → lane ≡ 0 → Put m m' at (ascii " lane -") r → Put m m' at (lane_text lane) r
-unfolding lane_text
-lane_none zero e p = p
-lane_none (suc n) e p = absurd (omega arith)
-
-pub lane_some : {m m' : List ℕ} {at r : ℕ} (lane : ℕ) → (lane ≡ 0 → ⊥) → Put m m' at (numbered " lane " lane) r → Put m m' at (lane_text lane) r
-unfolding lane_text
-lane_some zero e p = absurd (e refl)
-lane_some (suc n) e p = p

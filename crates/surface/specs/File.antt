@@ -2,11 +2,11 @@
 -- into each other, and what `read` and `write` answer. Bytes are numbers below 256, words numbers below 2 ^ 32. Definitions only. Assumes nothing.
 use Rattle.std.specs.Prelude.{Bool, true, false, cond, not, ◌&&◌, ◌||◌, List, [], ◌∷◌, ℕ, zero, suc, ◌+◌, ◌-◌, ◌*◌, ◌/◌, ◌%◌, ltb, eqb, length, get_or, take, drop}
 use Rattle.shape.specs.Gather.{gather, any, least}
-use Rattle.shape.specs.Refusal.{Fault, fine, refuse, Answer, taken, refused, judge, number_of, place_of}
-use Rattle.surface.specs.declared.file.Form.{Form}
-use Rattle.surface.specs.declared.file.Form.TheVariants.{File, Held}
-use Rattle.surface.specs.declared.file.Copied.{Copied}
-use Rattle.surface.specs.declared.file.Copied.TheVariants.{Count, Refused}
+use Rattle.shape.specs.Refusal.{Fault, fine, refuse, Answer, taken, judge}
+
+-- the form that a surface is in: the bytes of a file, or words as they are held
+pub data Form : Type 0 where
+  File Held : Form
 
 -- ---- bytes and words, "little-endian": the low byte first
 
@@ -169,9 +169,3 @@ read_of bs room = judge (file_fault bs) (copy_of (words_of bs) room)
 unfoldable pub write_of : List ℕ → ℕ → Answer ℕ
 unfolding held_fault bytes_of copy_of judge
 write_of ws room = judge (held_fault ws) (copy_of (bytes_of ws) room)
-
--- the answer by its case
-unfoldable pub read_copied : Copied → Answer ℕ
-unfolding number_of place_of
-read_copied (Count n) = taken n
-read_copied (Refused r) = refused (number_of r) (place_of r)

@@ -1,6 +1,6 @@
 -- Document 01, "Surface file and `probe`": the mesh and the questions that held words stand for. "Floats by their bits." Definitions only. Assumes
 -- nothing.
-use Rattle.std.specs.Prelude.{Bool, cond, List, [], ◌∷◌, ℕ, zero, suc, ◌+◌, ◌/◌, eqb, Float, length}
+use Rattle.std.specs.Prelude.{Bool, cond, List, [], ◌∷◌, ℕ, zero, suc, ◌+◌, ◌/◌, eqb, Float, length, Option, Some, None}
 use Rattle.std.specs.Float.{binary32}
 use Rattle.std.specs.Float.Ieee.{of_bits}
 use Rattle.shape.specs.Gather.{gather}
@@ -69,14 +69,19 @@ unfoldable pub single_in : List ℕ → ℕ → ℕ → Float
 unfolding word_of
 single_in ws k j = of_bits binary32 (word ws k j)
 
+-- three singles from word j of record k on
+unfoldable pub three_in : List ℕ → ℕ → ℕ → List Float
+unfolding single_in
+three_in ws j k = single_in ws k j ∷ single_in ws k (j + 1) ∷ single_in ws k (j + 2) ∷ []
+
 -- the place and the normal of vertex k, and the corners of triangle t
 unfoldable pub place_in : List ℕ → ℕ → List Float
-unfolding single_in
-place_in ws k = single_in ws k place_word ∷ single_in ws k (place_word + 1) ∷ single_in ws k (place_word + 2) ∷ []
+unfolding three_in
+place_in ws k = three_in ws place_word k
 
 unfoldable pub normal_in : List ℕ → ℕ → List Float
-unfolding single_in
-normal_in ws k = single_in ws k normal_word ∷ single_in ws k (normal_word + 1) ∷ single_in ws k (normal_word + 2) ∷ []
+unfolding three_in
+normal_in ws k = three_in ws normal_word k
 
 unfoldable pub corners_in : List ℕ → ℕ → List ℕ
 unfolding triangle_record word_of
@@ -97,10 +102,10 @@ unfoldable pub indices_in : List ℕ → List ℕ
 unfolding gather corners_in count_kind
 indices_in ws = gather (corners_in ws) (count_kind ws triangle_kind)
 
--- the lane id of triangle t, 0 for none
-unfoldable pub lane_in : List ℕ → ℕ → ℕ
+-- the lane id of triangle t: the word is 0 where there is none
+unfoldable pub lane_in : List ℕ → ℕ → Option ℕ
 unfolding triangle_record word_of
-lane_in ws t = word ws (triangle_record ws t) lane_word
+lane_in ws t = let id = word ws (triangle_record ws t) lane_word in cond (eqb id 0) None (Some id)
 
 -- question k
 unfoldable pub question_at : List ℕ → ℕ → Question

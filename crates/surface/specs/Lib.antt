@@ -1,5 +1,6 @@
 -- The definitions, a file for each part of document 01's "Surface file and `probe`".
 pub mod File
+pub mod Kind
 pub mod FileSteps
 pub mod Held
 pub mod Text

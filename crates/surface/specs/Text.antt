@@ -1,7 +1,7 @@
 -- Document 01, "Surface file and `probe`": the lines that `probe` prints, as lists of bytes in ASCII. Every line ends in a line feed.
 -- Definitions only. Assumes nothing.
 use Prim.Native.Char.{code}
-use Rattle.std.specs.Prelude.{ℕ, zero, suc, ◌+◌, ◌/◌, ◌%◌, ◌^◌, cond, List, [], ◌∷◌, ◌++◌, ltb, Float}
+use Rattle.std.specs.Prelude.{ℕ, zero, suc, ◌+◌, ◌/◌, ◌%◌, ◌^◌, cond, List, [], ◌∷◌, ◌++◌, ltb, Float, Option, Some, None}
 use Prim.Native.String.{String, [] as ended, ◌∷◌ as ◌then◌}
 use Rattle.rounding.specs.Stored.{stored_of}
 use Rattle.vector.specs.declared.coords.Vector.{Vector}
@@ -59,16 +59,16 @@ unfoldable pub normal_text : Vector → List ℕ
 unfolding hexadecimal stored_of
 normal_text n = floated " normal " n.x ++ floated " " n.y ++ floated " " n.z
 
--- a lane's id, "`lane -` for none", which is 0
-unfoldable pub lane_text : ℕ → List ℕ
+-- a lane's id, "`lane -` for none"
+unfoldable pub lane_text : Option ℕ → List ℕ
 unfolding digits_of
-lane_text zero = ascii " lane -"
-lane_text (suc n) = numbered " lane " (suc n)
+lane_text None = ascii " lane -"
+lane_text (Some id) = numbered " lane " id
 
 -- ---- lines
 
 -- the answer to question k: height, normal, triangle and the lane's id
-unfoldable pub found_line : ℕ → Float → Vector → ℕ → ℕ → List ℕ
+unfoldable pub found_line : ℕ → Float → Vector → ℕ → Option ℕ → List ℕ
 unfolding digits_of hexadecimal stored_of normal_text lane_text
 found_line k height normal triangle lane =
     numbered "at " k

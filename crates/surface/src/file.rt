@@ -1,12 +1,14 @@
 // The surface file. A file is bytes and a held surface is words, eight to a record; both are judged by
 // one rule and are turned into each other, record by record.
-ghost use Rattle.std.specs.Prelude.{◌≡◌, not, ◌&&◌, ◌+◌, ◌*◌, ◌/◌, ◌%◌, ◌≤◌, ◌<◌, ltb, eqb, length};
+ghost use Rattle.std.specs.Prelude.{◌≡◌, not, ◌&&◌, ℕ, ◌+◌, ◌*◌, ◌/◌, ◌%◌, ◌≤◌, ◌<◌, eqb, List, length};
 ghost use Rattle.shape.specs.Gather.{any, least};
 ghost use Rattle.shape.specs.Memory.{Put};
-ghost use Rattle.shape.specs.Refusal.{refuse, found, leaves};
+ghost use Rattle.shape.specs.Refusal.{found, told, leaves};
 ghost use Rattle.surface.specs.File.{
+  Form,
+  File,
+  Held,
   word_at,
-  four_bytes,
   encode,
   kind_of,
   spare,
@@ -24,25 +26,12 @@ ghost use Rattle.surface.specs.File.{
   bytes_of,
   read_of,
   write_of,
-  read_copied,
 };
-ghost use Rattle.surface.specs.FileSteps.{sound_kind, count_in, whole_in, record_in};
+ghost use Rattle.surface.specs.Kind.{kind_from, number};
+ghost use Rattle.surface.specs.FileSteps.{sound_kind};
 
-use shape::refusal::{Check, Refusal};
-
-// How many elements were copied, or why the call is turned back.
-#[derive(Clone, Copy)]
-pub enum Copied {
-    Count(usize),
-    Refused(Refusal),
-}
-
-// The form that a surface is in: the bytes of a file, or words as they are held.
-#[derive(Clone, Copy)]
-enum Form {
-    File,
-    Held,
-}
+use crate::memory::put;
+use shape::refusal::{Refusal, refuse_if};
 
 // The eight words of a record.
 #[derive(Clone, Copy)]
@@ -50,120 +39,58 @@ struct Record {
     words: [u32; 8],
 }
 
-// The kind of a record is its word 0.
-pub(crate) const VERTEX: u32 = 1;
+// The kind of a record is its word 0. Kinds never fall.
+#[derive(Clone, Copy, PartialEq, Eq, PartialOrd, Ord)]
+pub(crate) enum Kind {
+    Vertex = 1,
+    Triangle = 2,
+    Question = 3,
+}
 
-pub(crate) const TRIANGLE: u32 = 2;
+impl Kind {
+    // The kind of this number, if there is one.
+    #[tactic(auto, unfolding(crate::specs::Kind::kind_from))]
+    fn of(word: u32) -> Option<Kind>
+        ensures { result ≡ kind_from word }
+    {
+        match word {
+            1 => Some(Kind::Vertex),
+            2 => Some(Kind::Triangle),
+            3 => Some(Kind::Question),
+            _ => None,
+        }
+    }
 
-pub(crate) const QUESTION: u32 = 3;
+    // Its number.
+    #[tactic(auto, unfolding(crate::specs::Kind::number))]
+    pub(crate) fn number(self) -> u32
+        ensures { result ≡ number self }
+    {
+        self as u32
+    }
+}
 
 // The most records that a surface has.
 const RECORDS: usize = 2048;
 
-// ---- bytes and words
-
-// A byte as a word.
-fn as_word(b: u8) -> u32
-    ensures { result ≡ b }
-{
-    b as u32
-}
-
-// The word of four bytes, the low byte first.
-fn join(a: u8, b: u8, c: u8, d: u8) -> u32
-    ensures { result ≡ a + 256 * (b + 256 * (c + 256 * d)) }
-{
-    as_word(a) + 256 * (as_word(b) + 256 * (as_word(c) + 256 * as_word(d)))
-}
-
-// Word i of the bytes.
+// Word i of the bytes, the low byte first.
+#[tactic(auto, unfolding(crate::specs::File::word_at))]
 pub(crate) fn word_at(bytes: &[u8], i: usize) -> u32
     requires { 4 * i + 4 ≤ length bytes.now }
     ensures { result ≡ word_at bytes.now i }
 {
     let at = 4 * i;
-    join(bytes[at], bytes[at + 1], bytes[at + 2], bytes[at + 3])
-}
-
-// A word's four bytes, from `at` on.
-fn put_word(bytes: &mut [u8], at: usize, word: u32) -> usize
-    requires { at + 4 ≤ length bytes.old }
-    ensures { Put bytes.old bytes.new at (four_bytes word) result }
-{
-    bytes[at] = (word % 256) as u8;
-    bytes[at + 1] = (word / 256 % 256) as u8;
-    bytes[at + 2] = (word / 65536 % 256) as u8;
-    bytes[at + 3] = (word / 16777216 % 256) as u8;
-    at + 4
-}
-
-// ---- records
-
-// Record k of a file.
-fn file_record(bytes: &[u8], k: usize) -> Record
-    requires { 32 * k + 32 ≤ length bytes.now }
-    ensures { result.words ≡ file_record bytes.now k }
-{
-    let i = 8 * k;
-    Record {
-        words: [
-            word_at(bytes, i),
-            word_at(bytes, i + 1),
-            word_at(bytes, i + 2),
-            word_at(bytes, i + 3),
-            word_at(bytes, i + 4),
-            word_at(bytes, i + 5),
-            word_at(bytes, i + 6),
-            word_at(bytes, i + 7),
-        ],
-    }
-}
-
-// Record k of held words.
-fn held_record(held: &[u32], k: usize) -> Record
-    requires { 8 * k + 8 ≤ length held.now }
-    ensures { result.words ≡ held_record held.now k }
-{
-    let i = 8 * k;
-    Record {
-        words: [
-            held[i],
-            held[i + 1],
-            held[i + 2],
-            held[i + 3],
-            held[i + 4],
-            held[i + 5],
-            held[i + 6],
-            held[i + 7],
-        ],
-    }
-}
-
-// A record's words, from `at` of `held` on.
-fn put_held(held: &mut [u32], at: usize, r: Record) -> usize
-    requires { (at + 8 ≤ length held.old) × (length r.words ≡ 8) }
-    ensures { Put held.old held.new at r.words result }
-{
-    let words = r.words;
-    let mut j: usize = 0;
-    while j < 8 {
-        held[at + j] = words[j];
-        j += 1;
-    }
-    at + 8
+    u32::from_le_bytes([bytes[at], bytes[at + 1], bytes[at + 2], bytes[at + 3]])
 }
 
 // A record's bytes, from `at` of `bytes` on.
 fn put_file(bytes: &mut [u8], at: usize, r: Record) -> usize
-    requires { (at + 32 ≤ length bytes.old) × (length r.words ≡ 8) }
+    requires { at + 32 ≤ length bytes.old }
     ensures { Put bytes.old bytes.new at (encode r.words) result }
 {
-    let words = r.words;
     let mut next = at;
-    let mut j: usize = 0;
-    while j < 8 {
-        next = put_word(bytes, next, words[j]);
-        j += 1;
+    for j in 0..8 {
+        next = put(bytes, next, r.words[j].to_le_bytes());
     }
     next
 }
@@ -171,6 +98,7 @@ fn put_file(bytes: &mut [u8], at: usize, r: Record) -> usize
 // ---- the codec: how a record stands in the file and how it is held, by its kind
 
 // A record of the file, as it is held.
+#[tactic(auto, using(crate::proofs::Laws::File::held_same))]
 fn held_of(r: Record) -> Record
     ensures { result.words ≡ held_of (kind_of r.words) r.words }
 {
@@ -178,170 +106,208 @@ fn held_of(r: Record) -> Record
 }
 
 // A held record, as it stands in the file.
+#[tactic(auto, using(crate::proofs::Laws::File::file_same))]
 fn file_of(r: Record) -> Record
     ensures { result.words ≡ file_of (kind_of r.words) r.words }
 {
     r
 }
 
-// ---- one record
+// ---- records one after another
+
+// The records of a surface, in the form that they are lent in.
+trait Records: Copy {
+    ghost form: { Form };
+
+    ghost count_in: { Self → ℕ };
+
+    ghost whole_in: { Self → ℕ };
+
+    ghost record_in: { Self → ℕ → List ℕ };
+
+    // How many there are, a part one counted, which has fewer words than eight.
+    fn count(self) -> usize
+        ensures value { result ≡ count_in self }
+        ensures near { (whole_in self ≤ result) × (result ≤ whole_in self + 1) }
+        ensures part { length (record_in self (whole_in self)) < 8 };
+
+    // How many of them are whole.
+    fn whole(self) -> usize
+        ensures { result ≡ whole_in self };
+
+    // Whole record k.
+    fn record(self, k: usize) -> Record
+        requires { k < whole_in self }
+        ensures { result.words ≡ record_in self k };
+}
+
+// The bytes of a file, 32 to a record.
+#[derive(Clone, Copy)]
+struct FileBytes<'a> {
+    bytes: &'a [u8],
+}
+
+impl Records for FileBytes<'_> {
+    ghost form = { File };
+
+    ghost count_in = { λ s. parts 32 (length s.bytes.now) };
+
+    ghost whole_in = { λ s. length s.bytes.now / 32 };
+
+    ghost record_in = { λ s k. file_record s.bytes.now k };
+
+    #[tactic(auto, using(crate::proofs::Laws::Records::file_part), unfolding(crate::specs::File::parts))]
+    fn count(self) -> usize {
+        self.bytes.len().div_ceil(32)
+    }
+
+    fn whole(self) -> usize {
+        self.bytes.len() / 32
+    }
+
+    #[tactic(auto, using(crate::proofs::Laws::File::file_words))]
+    fn record(self, k: usize) -> Record {
+        let i = 8 * k;
+        Record {
+            words: [
+                word_at(self.bytes, i),
+                word_at(self.bytes, i + 1),
+                word_at(self.bytes, i + 2),
+                word_at(self.bytes, i + 3),
+                word_at(self.bytes, i + 4),
+                word_at(self.bytes, i + 5),
+                word_at(self.bytes, i + 6),
+                word_at(self.bytes, i + 7),
+            ],
+        }
+    }
+}
+
+// Words as they are held, eight to a record.
+#[derive(Clone, Copy)]
+struct HeldWords<'a> {
+    words: &'a [u32],
+}
+
+impl Records for HeldWords<'_> {
+    ghost form = { Held };
+
+    ghost count_in = { λ s. parts 8 (length s.words.now) };
+
+    ghost whole_in = { λ s. length s.words.now / 8 };
+
+    ghost record_in = { λ s k. held_record s.words.now k };
+
+    #[tactic(auto, using(crate::proofs::Laws::Records::held_part), unfolding(crate::specs::File::parts))]
+    fn count(self) -> usize {
+        self.words.len().div_ceil(8)
+    }
+
+    fn whole(self) -> usize {
+        self.words.len() / 8
+    }
+
+    #[tactic(auto, using(crate::proofs::Laws::File::held_words))]
+    fn record(self, k: usize) -> Record {
+        let i = 8 * k;
+        let ws = self.words;
+        Record {
+            words: [
+                ws[i],
+                ws[i + 1],
+                ws[i + 2],
+                ws[i + 3],
+                ws[i + 4],
+                ws[i + 5],
+                ws[i + 6],
+                ws[i + 7],
+            ],
+        }
+    }
+}
+
+// ---- how they are judged
 
 // Has a record of this kind no use for its word j?
-fn spare(form: Form, kind: u32, j: usize) -> bool
+#[tactic(auto, using(crate::proofs::Laws::Records::spare_vertex, crate::proofs::Laws::Records::spare_triangle, crate::proofs::Laws::Records::spare_question), unfolding(crate::specs::Kind::number))]
+fn spare<R: Records>(kind: Kind, j: usize) -> bool
     requires { j < 8 }
-    ensures { result ≡ spare form kind j }
+    ensures { result ≡ spare R.form (number kind) j }
 {
-    if kind == VERTEX {
-        return j == 7;
+    match kind {
+        Kind::Vertex => j == 7,
+        Kind::Triangle => 4 < j,
+        Kind::Question => 2 < j,
     }
-    if kind == TRIANGLE {
-        return 4 < j;
-    }
-    2 < j
 }
 
-fn spare_filled(form: Form, kind: u32, j: usize, word: u32) -> bool
-    requires { j < 8 }
-    ensures { result ≡ (spare form kind j && not (eqb word 0)) }
+// Is a spare word of a record of this kind used?
+#[tactic(auto, using(shape::proofs::Laws::Gather::any_next, shape::proofs::Laws::Gather::any_some), unfolding(shape::specs::Gather::any, crate::specs::File::spare_used))]
+fn spare_used<R: Records>(kind: Kind, r: Record) -> bool
+    requires { number kind ≡ kind_of r.words }
+    ensures { result ≡ any (spare_used R.form r.words) 8 }
 {
-    if spare(form, kind, j) {
-        return word != 0;
-    }
-    false
-}
-
-// Is a spare word of the record used?
-fn spare_used(form: Form, r: Record) -> bool
-    ensures { result ≡ any (spare_used form r.words) 8 }
-{
-    let words = r.words;
-    let kind = words[0];
-    let mut j: usize = 0;
-    while j < 8 {
-        if spare_filled(form, kind, j, words[j]) {
+    for j in 0..8 {
+        if spare::<R>(kind, j) && r.words[j] != 0 {
             return true;
         }
-        j += 1;
     }
     false
 }
 
-// The kind of a record that follows one of kind `last`, or 0 where it is bad.
-fn sound_kind(form: Form, r: Record, last: u32) -> u32
-    requires { length r.words ≡ 8 }
-    ensures { result ≡ sound_kind form r.words last }
+// The kind of a record that follows one of kind `last`, unless it is bad.
+#[tactic(auto, using(crate::proofs::Laws::Records::kind_number), unfolding(crate::specs::Kind::number_before, crate::specs::FileSteps::sound_kind, crate::specs::File::bad_record))]
+fn sound_kind<R: Records>(r: Record, last: Option<Kind>) -> Option<Kind>
+    ensures { result ≡ sound_kind R.form r.words last }
 {
-    let words = r.words;
-    let kind = words[0];
-    if QUESTION < kind {
-        return 0;
+    let kind = Kind::of(r.words[0])?;
+    if Some(kind) < last || spare_used::<R>(kind, r) {
+        return None;
     }
-    if kind < last {
-        return 0;
-    }
-    if spare_used(form, r) {
-        return 0;
-    }
-    kind
-}
-
-// ---- all records of a surface, which is lent as `bytes` or as `held`, by its form
-
-// How many of `size` elements there are in n, a part one counted.
-fn count_parts(n: usize, size: usize) -> usize
-    requires { 0 < size }
-    ensures { result ≡ parts size n }
-{
-    if n % size == 0 {
-        return n / size;
-    }
-    n / size + 1
-}
-
-// How many there are, a part one counted.
-fn count_records(form: Form, bytes: &[u8], held: &[u32]) -> usize
-    ensures { result ≡ count_in form bytes.now held.now }
-{
-    match form {
-        Form::File => count_parts(bytes.len(), 32),
-        Form::Held => count_parts(held.len(), 8),
-    }
-}
-
-// How many of them are whole.
-fn count_whole(form: Form, bytes: &[u8], held: &[u32]) -> usize
-    ensures { result ≡ whole_in form bytes.now held.now }
-{
-    match form {
-        Form::File => bytes.len() / 32,
-        Form::Held => held.len() / 8,
-    }
-}
-
-// Whole record k.
-fn record_at(form: Form, bytes: &[u8], held: &[u32], k: usize) -> Record
-    requires { k < whole_in form bytes.now held.now }
-    ensures { result.words ≡ record_in form bytes.now held.now k }
-{
-    match form {
-        Form::File => file_record(bytes, k),
-        Form::Held => held_record(held, k),
-    }
+    Some(kind)
 }
 
 // The first bad one of the whole records, or their number: a part one after them is bad.
-fn first_bad(form: Form, bytes: &[u8], held: &[u32]) -> usize
-    ensures { let bs = bytes.now in let ws = held.now in result ≡ least (bad_at form (record_in form bs ws)) (whole_in form bs ws) }
+fn first_bad<R: Records>(records: R) -> usize
+    ensures { result ≡ least (bad_at R.form (R.record_in records)) (R.whole_in records) }
 {
-    let n = count_whole(form, bytes, held);
-    let mut last: u32 = 0;
-    let mut k: usize = 0;
-    while k < n {
-        last = sound_kind(form, record_at(form, bytes, held, k), last);
-        if last == 0 {
+    let n = records.whole();
+    let mut last = None;
+    for k in 0..n {
+        let Some(kind) = sound_kind::<R>(records.record(k), last) else {
             return k;
-        }
-        k += 1;
+        };
+        last = Some(kind);
     }
-    k
-}
-
-// A bad record where k is one of n, else what comes after.
-fn bad_record_if(k: usize, n: usize, after: Check) -> Check
-    ensures { found result ≡ refuse (ltb k n) 5 k (found after) }
-{
-    if k < n {
-        return Check::Faulty(Refusal::BadRecord(k));
-    }
-    after
+    n
 }
 
 // Why the records are turned back, if they are: the faults in their order. More records than the most
 // are not read.
-fn surface_fault(form: Form, bytes: &[u8], held: &[u32]) -> Check
-    ensures { let bs = bytes.now in let ws = held.now in found result ≡ surface_fault form (count_in form bs ws) (record_in form bs ws) }
+#[tactic(auto, unfolding(shape::specs::Refusal::found, shape::specs::Refusal::refuse, shape::specs::Refusal::number_of, shape::specs::Refusal::place_of, crate::specs::File::surface_fault, crate::specs::File::refuse_first))]
+fn surface_fault<R: Records>(records: R) -> Result<(), Refusal>
+    ensures { found result ≡ surface_fault R.form (R.count_in records) (R.record_in records) }
 {
-    let n = count_records(form, bytes, held);
-    if RECORDS < n {
-        return Check::Faulty(Refusal::Oversize(RECORDS));
-    }
-    bad_record_if(first_bad(form, bytes, held), n, Check::Fine)
+    let n = records.count();
+    refuse_if(RECORDS < n, Refusal::Oversize(RECORDS))?;
+    let k = first_bad(records);
+    refuse_if(k < n, Refusal::BadRecord(k))
 }
 
 // Why held words are turned back, if they are.
-pub fn held_fault(held: &[u32]) -> Check
+#[tactic(auto, unfolding(crate::specs::File::held_fault))]
+pub fn held_fault(held: &[u32]) -> Result<(), Refusal>
     ensures { found result ≡ held_fault held.now }
 {
-    let no_bytes: [u8; 0] = [];
-    surface_fault(Form::Held, &no_bytes, held)
+    surface_fault(HeldWords { words: held })
 }
 
 // Why a file is turned back, if it is.
-pub fn file_fault(bytes: &[u8]) -> Check
+#[tactic(auto, unfolding(crate::specs::File::file_fault))]
+pub fn file_fault(bytes: &[u8]) -> Result<(), Refusal>
     ensures { found result ≡ file_fault bytes.now }
 {
-    let no_words: [u32; 0] = [];
-    surface_fault(Form::File, bytes, &no_words)
+    surface_fault(FileBytes { bytes })
 }
 
 // ---- the calls
@@ -351,12 +317,10 @@ fn copy_words(bytes: &[u8], held: &mut [u32])
     requires { (length bytes.now % 32 ≡ 0) × (length bytes.now / 4 ≤ length held.old) }
     ensures { Put held.old held.new 0 (words_of bytes.now) (length bytes.now / 4) }
 {
-    let n = bytes.len() / 32;
-    let mut at: usize = 0;
-    let mut k: usize = 0;
-    while k < n {
-        at = put_held(held, at, held_of(file_record(bytes, k)));
-        k += 1;
+    let file = FileBytes { bytes };
+    let mut at = 0;
+    for k in 0..file.whole() {
+        at = put(held, at, held_of(file.record(k)).words);
     }
 }
 
@@ -365,45 +329,35 @@ fn copy_bytes(held: &[u32], bytes: &mut [u8])
     requires { (length held.now % 8 ≡ 0) × (4 * length held.now ≤ length bytes.old) }
     ensures { Put bytes.old bytes.new 0 (bytes_of held.now) (4 * length held.now) }
 {
-    let n = held.len() / 8;
-    let mut at: usize = 0;
-    let mut k: usize = 0;
-    while k < n {
-        at = put_file(bytes, at, file_of(held_record(held, k)));
-        k += 1;
+    let surface = HeldWords { words: held };
+    let mut at = 0;
+    for k in 0..surface.whole() {
+        at = put_file(bytes, at, file_of(surface.record(k)));
     }
 }
 
 // The words of a file into `held`.
-pub fn read(bytes: &[u8], held: &mut [u32]) -> Copied
-    ensures result_value { read_copied result ≡ read_of bytes.now (length held.old) }
+#[tactic(auto, using(crate::proofs::Laws::File::words_length, crate::proofs::Laws::File::whole_file), unfolding(shape::specs::Refusal::found, shape::specs::Refusal::told, shape::specs::Refusal::refuse, shape::specs::Refusal::judge, shape::specs::Refusal::leaves, shape::specs::Refusal::number_of, shape::specs::Refusal::place_of, crate::specs::File::copy_of, crate::specs::File::read_of))]
+pub fn read(bytes: &[u8], held: &mut [u32]) -> Result<usize, Refusal>
+    ensures result_value { told result ≡ read_of bytes.now (length held.old) }
     ensures held_after { held.new ≡ leaves (read_of bytes.now (length held.old)) (words_of bytes.now) held.old }
 {
-    let check = file_fault(bytes);
-    if let Check::Faulty(r) = check {
-        return Copied::Refused(r);
-    }
+    file_fault(bytes)?;
     let wanted = bytes.len() / 4;
-    if held.len() < wanted {
-        return Copied::Refused(Refusal::ShortOutput(wanted));
-    }
+    refuse_if(held.len() < wanted, Refusal::ShortOutput(wanted))?;
     copy_words(bytes, held);
-    Copied::Count(wanted)
+    Ok(wanted)
 }
 
 // The bytes of held words into `bytes`.
-pub fn write(held: &[u32], bytes: &mut [u8]) -> Copied
-    ensures result_value { read_copied result ≡ write_of held.now (length bytes.old) }
+#[tactic(auto, using(crate::proofs::Laws::File::bytes_length, crate::proofs::Laws::File::whole_held), unfolding(shape::specs::Refusal::found, shape::specs::Refusal::told, shape::specs::Refusal::refuse, shape::specs::Refusal::judge, shape::specs::Refusal::leaves, shape::specs::Refusal::number_of, shape::specs::Refusal::place_of, crate::specs::File::copy_of, crate::specs::File::write_of))]
+pub fn write(held: &[u32], bytes: &mut [u8]) -> Result<usize, Refusal>
+    ensures result_value { told result ≡ write_of held.now (length bytes.old) }
     ensures bytes_after { bytes.new ≡ leaves (write_of held.now (length bytes.old)) (bytes_of held.now) bytes.old }
 {
-    let check = held_fault(held);
-    if let Check::Faulty(r) = check {
-        return Copied::Refused(r);
-    }
+    held_fault(held)?;
     let wanted = 4 * held.len();
-    if bytes.len() < wanted {
-        return Copied::Refused(Refusal::ShortOutput(wanted));
-    }
+    refuse_if(bytes.len() < wanted, Refusal::ShortOutput(wanted))?;
     copy_bytes(held, bytes);
-    Copied::Count(wanted)
+    Ok(wanted)
 }

@@ -1,11 +1,14 @@
 // The mesh and the questions that a file stands for, read straight from its bytes.
-ghost use Rattle.std.specs.Prelude.{◌≡◌, cond, ◌+◌, ◌*◌, ◌/◌, ◌^◌, ◌≤◌, ◌<◌, [], ◌∷◌, length};
+ghost use Rattle.std.specs.Prelude.{◌≡◌, ◌+◌, ◌*◌, ◌/◌, ◌^◌, ◌≤◌, ◌<◌, length};
+ghost use Rattle.shape.specs.Gather.{gather};
 ghost use Rattle.shape.specs.Memory.{Put};
 ghost use Rattle.shape.specs.Lists.{word_of};
-ghost use Rattle.surface.specs.File.{words_of};
-ghost use Rattle.surface.specs.Held.{corners_word, count_kind, sizes_of, single_in, vertices_in, normals_in, indices_in, lane_in, question_at, points_of};
+ghost use Rattle.surface.specs.File.{vertex_kind, words_of};
+ghost use Rattle.surface.specs.Kind.{number};
+ghost use Rattle.surface.specs.Held.{count_kind, sizes_of, single_in, three_in, vertices_in, normals_in, indices_in, lane_in, question_at, points_of};
 
-use crate::file::{QUESTION, TRIANGLE, VERTEX, word_at};
+use crate::file::{Kind, word_at};
+use crate::memory::put;
 use rounding::bits::from_bits32;
 
 // The words of a record as it is held, of three or two in a row the first: of a vertex, of a triangle, and
@@ -35,8 +38,6 @@ pub struct Question {
     pub y: f32,
 }
 
-// ---- records
-
 // Word j of record k, 0 past the end.
 fn word(bytes: &[u8], k: usize, j: usize) -> u32
     requires { (k < 2 ^ 40) × (j < 8) }
@@ -49,156 +50,140 @@ fn word(bytes: &[u8], k: usize, j: usize) -> u32
     0
 }
 
-// The single in word j of record k.
-fn single(bytes: &[u8], k: usize, j: usize) -> f32
-    requires { (k < 2 ^ 40) × (j < 8) }
-    ensures { result ≡ single_in (words_of bytes.now) k j }
-{
-    from_bits32(word(bytes, k, j))
-}
-
-fn one_if(b: bool) -> usize
-    ensures { result ≡ cond b 1 0 }
-{
-    if b { 1 } else { 0 }
-}
-
 // How many records are of this kind.
-fn count_kind(bytes: &[u8], kind: u32) -> usize
+#[tactic(auto, using(crate::proofs::Laws::File::words_length))]
+fn count_kind(bytes: &[u8], kind: Kind) -> usize
     requires { length (words_of bytes.now) ≤ 16384 }
-    ensures { result ≡ count_kind (words_of bytes.now) kind }
+    ensures { result ≡ count_kind (words_of bytes.now) (number kind) }
 {
-    let n = bytes.len() / 32;
-    let mut found: usize = 0;
-    let mut k: usize = 0;
-    while k < n {
-        found += one_if(word(bytes, k, 0) == kind);
-        k += 1;
+    let mut found = 0;
+    for k in 0..bytes.len() / 32 {
+        found += (word(bytes, k, 0) == kind.number()) as usize;
     }
     found
 }
 
-// How many vertices, triangles and questions there are.
-pub(crate) fn counts(bytes: &[u8]) -> Sizes
-    requires { length (words_of bytes.now) ≤ 16384 }
-    ensures value { result ≡ sizes_of (words_of bytes.now) }
-    ensures vertices_bound { (result.vertices ≤ 2048) × (result.triangles ≤ 2048) × (result.questions ≤ 2048) }
-{
-    Sizes {
-        vertices: count_kind(bytes, VERTEX),
-        triangles: count_kind(bytes, TRIANGLE),
-        questions: count_kind(bytes, QUESTION),
+// A file of at most 2,048 records, and how many of each kind it has.
+#[derive(Clone, Copy)]
+pub(crate) struct Surface<'a> {
+    pub bytes: &'a [u8],
+    pub sizes: Sizes,
+    ghost few: { length (words_of bytes.now) ≤ 16384 },
+    ghost sized: { sizes ≡ sizes_of (words_of bytes.now) },
+    ghost within: { (sizes.vertices ≤ 2048) × (sizes.triangles ≤ 2048) × (sizes.questions ≤ 2048) },
+}
+
+impl<'a> Surface<'a> {
+    // A file that has no more records than the most.
+    #[tactic(auto, using(crate::proofs::Laws::Report::kind_most), unfolding(crate::specs::Held::sizes_of, crate::specs::Kind::number))]
+    pub(crate) fn new(bytes: &'a [u8]) -> Surface<'a>
+        requires { length (words_of bytes.now) ≤ 16384 }
+        ensures { result.bytes.now ≡ bytes.now }
+    {
+        let sizes = Sizes {
+            vertices: count_kind(bytes, Kind::Vertex),
+            triangles: count_kind(bytes, Kind::Triangle),
+            questions: count_kind(bytes, Kind::Question),
+        };
+        Surface { bytes, sizes }
     }
-}
 
-// ---- the lists of the mesh
-
-// Three singles from word j of record k on, from `at` of `out` on.
-fn put_singles(bytes: &[u8], k: usize, j: usize, out: &mut [f32], at: usize) -> usize
-    requires { (k < 2 ^ 40) × (j < 6) × (at + 3 ≤ length out.old) }
-    ensures { let ws = words_of bytes.now in Put out.old out.new at (single_in ws k j ∷ single_in ws k (j + 1) ∷ single_in ws k (j + 2) ∷ []) result }
-{
-    out[at] = single(bytes, k, j);
-    out[at + 1] = single(bytes, k, j + 1);
-    out[at + 2] = single(bytes, k, j + 2);
-    at + 3
-}
-
-// The places of all vertices, to the front of `out`.
-pub(crate) fn unpack_vertices(bytes: &[u8], sizes: Sizes, out: &mut [f32])
-    requires { (length (words_of bytes.now) ≤ 16384) × (sizes ≡ sizes_of (words_of bytes.now)) × (3 * sizes.vertices ≤ length out.old) }
-    ensures { Put out.old out.new 0 (vertices_in (words_of bytes.now)) (3 * sizes.vertices) }
-{
-    let n = sizes.vertices;
-    let mut at: usize = 0;
-    let mut k: usize = 0;
-    while k < n {
-        at = put_singles(bytes, k, PLACE, out, at);
-        k += 1;
+    // The single in word j of record k.
+    #[tactic(auto, unfolding(crate::specs::Held::single_in))]
+    fn single(self, k: usize, j: usize) -> f32
+        requires { (k < 2 ^ 40) × (j < 8) }
+        ensures { result ≡ single_in (words_of self.entry.bytes.now) k j }
+    {
+        from_bits32(word(self.bytes, k, j))
     }
-}
 
-// The normals of all vertices, to the front of `out`.
-pub(crate) fn unpack_normals(bytes: &[u8], sizes: Sizes, out: &mut [f32])
-    requires { (length (words_of bytes.now) ≤ 16384) × (sizes ≡ sizes_of (words_of bytes.now)) × (3 * sizes.vertices ≤ length out.old) }
-    ensures { Put out.old out.new 0 (normals_in (words_of bytes.now)) (3 * sizes.vertices) }
-{
-    let n = sizes.vertices;
-    let mut at: usize = 0;
-    let mut k: usize = 0;
-    while k < n {
-        at = put_singles(bytes, k, NORMAL, out, at);
-        k += 1;
+    // ---- the lists of the mesh
+
+    // Three singles from word j of each vertex on, to the front of `out`.
+    fn unpack_threes(self, j: usize, out: &mut [f32])
+        requires { (j < 6) × (3 * self.sizes.vertices ≤ length out.old) }
+        ensures { let ws = words_of self.entry.bytes.now in Put out.old out.new 0 (gather (three_in ws j) (count_kind ws vertex_kind)) (3 * self.entry.sizes.vertices) }
+    {
+        let mut at = 0;
+        for k in 0..self.sizes.vertices {
+            let three = [
+                self.single(k, j),
+                self.single(k, j + 1),
+                self.single(k, j + 2),
+            ];
+            at = put(out, at, three);
+        }
     }
-}
 
-// The corners of record k, from `at` of `out` on.
-fn put_corners(bytes: &[u8], k: usize, out: &mut [u32], at: usize) -> usize
-    requires { (k < 2 ^ 40) × (at + 3 ≤ length out.old) }
-    ensures { let ws = words_of bytes.now in Put out.old out.new at (word_of 8 ws k corners_word ∷ word_of 8 ws k (corners_word + 1) ∷ word_of 8 ws k (corners_word + 2) ∷ []) result }
-{
-    out[at] = word(bytes, k, CORNERS);
-    out[at + 1] = word(bytes, k, CORNERS + 1);
-    out[at + 2] = word(bytes, k, CORNERS + 2);
-    at + 3
-}
-
-// The corners of all triangles, to the front of `out`.
-pub(crate) fn unpack_indices(bytes: &[u8], sizes: Sizes, out: &mut [u32])
-    requires { (length (words_of bytes.now) ≤ 16384) × (sizes ≡ sizes_of (words_of bytes.now)) × (3 * sizes.triangles ≤ length out.old) }
-    ensures { Put out.old out.new 0 (indices_in (words_of bytes.now)) (3 * sizes.triangles) }
-{
-    let first = sizes.vertices;
-    let n = sizes.triangles;
-    let mut at: usize = 0;
-    let mut t: usize = 0;
-    while t < n {
-        at = put_corners(bytes, first + t, out, at);
-        t += 1;
+    // The places of all vertices, to the front of `out`.
+    #[tactic(auto, unfolding(crate::specs::Held::vertices_in, crate::specs::Held::place_in))]
+    pub(crate) fn unpack_vertices(self, out: &mut [f32])
+        requires { 3 * self.sizes.vertices ≤ length out.old }
+        ensures { Put out.old out.new 0 (vertices_in (words_of self.entry.bytes.now)) (3 * self.entry.sizes.vertices) }
+    {
+        self.unpack_threes(PLACE, out)
     }
-}
 
-// ---- lanes and questions
-
-// The lane id of triangle t, 0 for none.
-pub(crate) fn lane_of(bytes: &[u8], sizes: Sizes, t: usize) -> u32
-    requires { (length (words_of bytes.now) ≤ 16384) × (sizes ≡ sizes_of (words_of bytes.now)) × (t < 2 ^ 32) }
-    ensures { result ≡ lane_in (words_of bytes.now) t }
-{
-    word(bytes, sizes.vertices + t, LANE)
-}
-
-// Where question k asks.
-pub(crate) fn question_at(bytes: &[u8], sizes: Sizes, k: usize) -> Question
-    requires { (length (words_of bytes.now) ≤ 16384) × (sizes ≡ sizes_of (words_of bytes.now)) × (k < 2 ^ 32) }
-    ensures { result ≡ question_at (words_of bytes.now) k }
-{
-    let record = sizes.vertices + sizes.triangles + k;
-    Question {
-        x: single(bytes, record, POINT),
-        y: single(bytes, record, POINT + 1),
+    // The normals of all vertices, to the front of `out`.
+    #[tactic(auto, unfolding(crate::specs::Held::normals_in, crate::specs::Held::normal_in))]
+    pub(crate) fn unpack_normals(self, out: &mut [f32])
+        requires { 3 * self.sizes.vertices ≤ length out.old }
+        ensures { Put out.old out.new 0 (normals_in (words_of self.entry.bytes.now)) (3 * self.entry.sizes.vertices) }
+    {
+        self.unpack_threes(NORMAL, out)
     }
-}
 
-fn put_point(out: &mut [f32], at: usize, q: Question) -> usize
-    requires { at + 2 ≤ length out.old }
-    ensures { Put out.old out.new at (q.x ∷ q.y ∷ []) result }
-{
-    out[at] = q.x;
-    out[at + 1] = q.y;
-    at + 2
-}
+    // The corners of all triangles, to the front of `out`.
+    pub(crate) fn unpack_indices(self, out: &mut [u32])
+        requires { 3 * self.sizes.triangles ≤ length out.old }
+        ensures { Put out.old out.new 0 (indices_in (words_of self.entry.bytes.now)) (3 * self.entry.sizes.triangles) }
+    {
+        let first = self.sizes.vertices;
+        let mut at = 0;
+        for t in 0..self.sizes.triangles {
+            let corners = [
+                word(self.bytes, first + t, CORNERS),
+                word(self.bytes, first + t, CORNERS + 1),
+                word(self.bytes, first + t, CORNERS + 2),
+            ];
+            at = put(out, at, corners);
+        }
+    }
 
-// The points of all questions, in pairs, to the front of `out`.
-pub(crate) fn unpack_points(bytes: &[u8], sizes: Sizes, out: &mut [f32])
-    requires { (length (words_of bytes.now) ≤ 16384) × (sizes ≡ sizes_of (words_of bytes.now)) × (2 * sizes.questions ≤ length out.old) }
-    ensures { Put out.old out.new 0 (points_of (words_of bytes.now)) (2 * sizes.questions) }
-{
-    let n = sizes.questions;
-    let mut at: usize = 0;
-    let mut k: usize = 0;
-    while k < n {
-        at = put_point(out, at, question_at(bytes, sizes, k));
-        k += 1;
+    // ---- lanes and questions
+
+    // The lane id of triangle t, which is 0 where there is none.
+    #[tactic(auto, using(crate::proofs::Laws::Held::sized), unfolding(crate::specs::Held::lane_in, crate::specs::Held::triangle_record))]
+    pub(crate) fn lane_of(self, t: usize) -> Option<u32>
+        requires { t < 2 ^ 32 }
+        ensures { result ≡ lane_in (words_of self.entry.bytes.now) t }
+    {
+        let id = word(self.bytes, self.sizes.vertices + t, LANE);
+        if id == 0 { None } else { Some(id) }
+    }
+
+    // Where question k asks.
+    #[tactic(auto, using(crate::proofs::Laws::Held::sized), unfolding(crate::specs::Held::question_at, crate::specs::Held::question_record))]
+    pub(crate) fn question_at(self, k: usize) -> Question
+        requires { k < 2 ^ 32 }
+        ensures { result ≡ question_at (words_of self.entry.bytes.now) k }
+    {
+        let record = self.sizes.vertices + self.sizes.triangles + k;
+        Question {
+            x: self.single(record, POINT),
+            y: self.single(record, POINT + 1),
+        }
+    }
+
+    // The points of all questions, in pairs, to the front of `out`.
+    pub(crate) fn unpack_points(self, out: &mut [f32])
+        requires { 2 * self.sizes.questions ≤ length out.old }
+        ensures { Put out.old out.new 0 (points_of (words_of self.entry.bytes.now)) (2 * self.entry.sizes.questions) }
+    {
+        let mut at = 0;
+        for k in 0..self.sizes.questions {
+            let q = self.question_at(k);
+            at = put(out, at, [q.x, q.y]);
+        }
     }
 }

@@ -4,5 +4,6 @@
 
 pub mod file;
 mod held;
+mod memory;
 pub mod report;
 mod text;

@@ -2,8 +2,9 @@
 ghost use Rattle.std.specs.Prelude.{◌≡◌, [], ◌∷◌, ◌++◌, ℕ, suc, ◌+◌, ◌<◌, ◌≤◌, ◌^◌, length};
 ghost use Rattle.rounding.specs.Stored.{stored_of};
 ghost use Rattle.shape.specs.Memory.{Put};
-ghost use Rattle.surface.specs.Text.{digit, digits_of, decimal, hex_digit, hexadecimal, normal_text, lane_text, found_line, none_line, asked_line, refused_line};
+ghost use Rattle.surface.specs.Text.{digit, digits_of, decimal, hex_digit, hexadecimal, normal_text, lane_text, none_line, asked_line, refused_line};
 
+use crate::memory::put;
 use rounding::bits::stored_word;
 use vector::coords::Vector;
 
@@ -12,37 +13,27 @@ pub(crate) fn put_bytes(out: &mut [u8], at: usize, bytes: &[u8]) -> usize
     requires { at + length bytes.now ≤ length out.old }
     ensures { Put out.old out.new at bytes.now result }
 {
-    let mut i: usize = 0;
-    while i < bytes.len() {
-        out[at + i] = bytes[i];
-        i += 1;
-    }
-    at + i
+    let end = at + bytes.len();
+    out[at..end].copy_from_slice(bytes);
+    end
 }
 
 // ---- numbers
 
-fn put_digit(out: &mut [u8], at: usize, d: usize) -> usize
-    requires { (at < length out.old) × (d < 10) }
-    ensures { Put out.old out.new at (digit d ∷ []) result }
-{
-    out[at] = (48 + d) as u8;
-    at + 1
-}
-
 // A number in decimal, with no leading zero: what comes before its last digit, if anything does, and
 // that digit.
-fn put_decimal(out: &mut [u8], at: usize, n: usize) -> usize
-    requires { (at + length (decimal n) ≤ length out.old) × (n < 10 ^ 10) }
+fn put_decimal(out: &mut [u8], at: usize, n: u32) -> usize
+    requires { at + length (decimal n) ≤ length out.old }
     ensures { (k : ℕ) → n < 10 ^ suc k → Put out.old out.new at (digits_of k n) result }
 {
     if n < 10 {
-        return put_digit(out, at, n);
+        return put(out, at, [(48 + n) as u8]);
     }
     let next = put_decimal(out, at, n / 10);
-    put_digit(out, next, n % 10)
+    put(out, next, [(48 + n % 10) as u8])
 }
 
+#[tactic(auto, unfolding(crate::specs::Text::hex_digit))]
 fn hex_digit(d: u32) -> u8
     requires { d < 16 }
     ensures { result ≡ hex_digit d }
@@ -55,25 +46,28 @@ fn hex_digit(d: u32) -> u8
 }
 
 // A word in hexadecimal, in eight digits.
+#[tactic(auto, unfolding(crate::specs::Text::hexadecimal))]
 fn put_hexadecimal(out: &mut [u8], at: usize, w: u32) -> usize
     requires { at + 8 ≤ length out.old }
     ensures { Put out.old out.new at (hexadecimal w) result }
 {
-    out[at] = hex_digit(w / 0x1000_0000);
-    out[at + 1] = hex_digit(w / 0x100_0000 % 16);
-    out[at + 2] = hex_digit(w / 0x10_0000 % 16);
-    out[at + 3] = hex_digit(w / 0x1_0000 % 16);
-    out[at + 4] = hex_digit(w / 0x1000 % 16);
-    out[at + 5] = hex_digit(w / 0x100 % 16);
-    out[at + 6] = hex_digit(w / 0x10 % 16);
-    out[at + 7] = hex_digit(w % 16);
-    at + 8
+    let digits = [
+        hex_digit(w / 0x1000_0000),
+        hex_digit(w / 0x100_0000 % 16),
+        hex_digit(w / 0x10_0000 % 16),
+        hex_digit(w / 0x1_0000 % 16),
+        hex_digit(w / 0x1000 % 16),
+        hex_digit(w / 0x100 % 16),
+        hex_digit(w / 0x10 % 16),
+        hex_digit(w % 16),
+    ];
+    put(out, at, digits)
 }
 
 // ---- a word and what comes after it
 
-fn put_number(out: &mut [u8], at: usize, word: &[u8], n: usize) -> usize
-    requires { (at + length word.now + length (decimal n) ≤ length out.old) × (n < 2 ^ 32) }
+fn put_number(out: &mut [u8], at: usize, word: &[u8], n: u32) -> usize
+    requires { at + length word.now + length (decimal n) ≤ length out.old }
     ensures put { Put out.old out.new at (word.now ++ decimal n) result }
     ensures value { result ≡ at + length word.now + length (decimal n) }
 {
@@ -101,44 +95,56 @@ fn put_normal(out: &mut [u8], at: usize, n: Vector) -> usize
     put_float(out, at, b" ", n.z)
 }
 
-// A lane by its id, 0 for none.
-fn put_lane(out: &mut [u8], at: usize, lane: usize) -> usize
-    requires { (at + length (lane_text lane) ≤ length out.old) × (lane < 2 ^ 32) }
+// A lane by its id, if there is one.
+#[tactic(auto, using(crate::proofs::Laws::Text::lane_none_size, crate::proofs::Laws::Text::lane_some_size), unfolding(crate::specs::Text::lane_text))]
+fn put_lane(out: &mut [u8], at: usize, lane: Option<u32>) -> usize
+    requires { at + length (lane_text lane) ≤ length out.old }
     ensures { Put out.old out.new at (lane_text lane) result }
 {
-    if lane == 0 {
-        return put_bytes(out, at, b" lane -");
+    match lane {
+        Some(id) => put_number(out, at, b" lane ", id),
+        None => put_bytes(out, at, b" lane -"),
     }
-    put_number(out, at, b" lane ", lane)
 }
 
 // ---- lines
 
-// The answer to question k: height, normal, triangle and lane.
-pub(crate) fn put_found(
-    out: &mut [u8],
-    at: usize,
-    k: usize,
-    height: f32,
-    normal: Vector,
-    triangle: usize,
-    lane: usize,
-) -> usize
-    requires k_bound { (k < 2 ^ 32) × (triangle < 2 ^ 32) × (lane < 2 ^ 32) }
-    requires lane_in_bounds { at + 64 + length (decimal k) + length (decimal triangle) + length (lane_text lane) ≤ length out.old }
-    ensures { Put out.old out.new at (found_line k height normal triangle lane) result }
-{
-    let at = put_number(out, at, b"at ", k);
-    let at = put_float(out, at, b" height ", height);
-    let at = put_normal(out, at, normal);
-    let at = put_number(out, at, b" triangle ", triangle);
-    let at = put_lane(out, at, lane);
-    put_bytes(out, at, b"\n")
+// The answer to a question: height, normal, triangle and the lane's id, if it has one.
+#[derive(Clone, Copy)]
+pub(crate) struct FoundLine {
+    pub height: f32,
+    pub normal: Vector,
+    pub triangle: u32,
+    pub lane: Option<u32>,
+}
+
+impl FoundLine {
+    ghost use Rattle.surface.specs.ReportSteps.{found_text};
+
+    // The line of question k.
+    pub(crate) fn put(self, out: &mut [u8], at: usize, k: u32) -> usize
+        requires { at + 64 + length (decimal k) + length (decimal self.triangle) + length (lane_text self.lane) ≤ length out.old }
+        ensures { Put out.old out.new at (found_text k self) result }
+    {
+        let at = put_number(out, at, b"at ", k);
+        let at = put_float(out, at, b" height ", self.height);
+        let at = put_normal(out, at, self.normal);
+        let at = put_number(out, at, b" triangle ", self.triangle);
+        let at = put_lane(out, at, self.lane);
+        put_bytes(out, at, b"\n")
+    }
+
+    // How long that is. Its words and floats take 64 bytes.
+    pub(crate) fn length(self, k: u32) -> usize
+        ensures { (result ≡ 64 + length (decimal k) + length (decimal self.triangle) + length (lane_text self.lane)) × (result ≤ 100) }
+    {
+        64 + decimal_length(k) + decimal_length(self.triangle) + lane_length(self.lane)
+    }
 }
 
 // That question k has no answer.
-pub(crate) fn put_none(out: &mut [u8], at: usize, k: usize) -> usize
-    requires { (at + 9 + length (decimal k) ≤ length out.old) × (k < 2 ^ 32) }
+pub(crate) fn put_none(out: &mut [u8], at: usize, k: u32) -> usize
+    requires { at + 9 + length (decimal k) ≤ length out.old }
     ensures { Put out.old out.new at (none_line k) result }
 {
     let at = put_number(out, at, b"at ", k);
@@ -146,39 +152,66 @@ pub(crate) fn put_none(out: &mut [u8], at: usize, k: usize) -> usize
 }
 
 // A line of two words, each with a number.
-fn put_pair(out: &mut [u8], at: usize, first: &[u8], n: usize, second: &[u8], m: usize) -> usize
-    requires n_bound { (n < 2 ^ 32) × (m < 2 ^ 32) }
-    requires m_in_bounds { at + length first.now + length (decimal n) + length second.now + length (decimal m) + 1 ≤ length out.old }
-    ensures { Put out.old out.new at ((first.now ++ decimal n) ++ (second.now ++ decimal m) ++ 10 ∷ []) result }
-{
-    let at = put_number(out, at, first, n);
-    let at = put_number(out, at, second, m);
-    put_bytes(out, at, b"\n")
+#[derive(Clone, Copy)]
+pub(crate) struct PairLine<'a> {
+    first: &'a [u8],
+    n: u32,
+    second: &'a [u8],
+    m: u32,
+    ghost short: { length first.now + length second.now < 14 },
 }
 
-// The last line.
-pub(crate) fn put_asked(out: &mut [u8], at: usize, asked: usize, found: usize) -> usize
-    requires asked_bound { (asked < 2 ^ 32) × (found < 2 ^ 32) }
-    requires found_in_bounds { at + 14 + length (decimal asked) + length (decimal found) ≤ length out.old }
-    ensures { Put out.old out.new at (asked_line asked found) result }
-{
-    put_pair(out, at, b"asked ", asked, b" found ", found)
-}
+impl PairLine<'_> {
+    ghost use Rattle.surface.specs.ReportSteps.{pair_text};
 
-// A refusal, by its number and place.
-pub(crate) fn put_refused(out: &mut [u8], at: usize, number: usize, place: usize) -> usize
-    requires number_bound { (number < 2 ^ 32) × (place < 2 ^ 32) }
-    requires place_in_bounds { at + 13 + length (decimal number) + length (decimal place) ≤ length out.old }
-    ensures { Put out.old out.new at (refused_line number place) result }
-{
-    put_pair(out, at, b"refused ", number, b" at ", place)
+    // The last line.
+    #[tactic(auto, unfolding(crate::specs::Text::asked_line))]
+    pub(crate) fn asked(asked: u32, found: u32) -> PairLine<'static>
+        ensures { pair_text result ≡ asked_line asked found }
+    {
+        PairLine {
+            first: b"asked ",
+            n: asked,
+            second: b" found ",
+            m: found,
+        }
+    }
+
+    // A refusal, by its number and place.
+    #[tactic(auto, unfolding(crate::specs::Text::refused_line))]
+    pub(crate) fn refused(number: u32, place: u32) -> PairLine<'static>
+        ensures { pair_text result ≡ refused_line number place }
+    {
+        PairLine {
+            first: b"refused ",
+            n: number,
+            second: b" at ",
+            m: place,
+        }
+    }
+
+    pub(crate) fn put(self, out: &mut [u8], at: usize) -> usize
+        requires { at + length (pair_text self) ≤ length out.old }
+        ensures { Put out.old out.new at (pair_text self.entry) result }
+    {
+        let at = put_number(out, at, self.first, self.n);
+        let at = put_number(out, at, self.second, self.m);
+        put_bytes(out, at, b"\n")
+    }
+
+    // How long that is.
+    pub(crate) fn length(self) -> usize
+        ensures { (result ≡ length (pair_text self.entry)) × (result ≤ 34) }
+    {
+        let words = self.first.len() + self.second.len() + 1;
+        words + decimal_length(self.n) + decimal_length(self.m)
+    }
 }
 
 // ---- how long they are
 
 // A number in decimal.
-fn decimal_length(n: usize) -> usize
-    requires { n < 10 ^ 10 }
+fn decimal_length(n: u32) -> usize
     ensures { (result ≡ length (decimal n)) × (result ≤ 10) }
 {
     let mut rest = n;
@@ -191,44 +224,19 @@ fn decimal_length(n: usize) -> usize
 }
 
 // What is said of a lane.
-fn lane_length(id: usize) -> usize
-    requires { id < 2 ^ 32 }
-    ensures { (result ≡ length (lane_text id)) × (result ≤ 16) }
+#[tactic(auto, using(crate::proofs::Laws::Text::lane_none_size, crate::proofs::Laws::Text::lane_some_size))]
+fn lane_length(lane: Option<u32>) -> usize
+    ensures { (result ≡ length (lane_text lane)) × (result ≤ 16) }
 {
-    if id == 0 {
-        return 7;
+    match lane {
+        Some(id) => 6 + decimal_length(id),
+        None => 7,
     }
-    6 + decimal_length(id)
-}
-
-// The line of an answer. Its words and floats take 64 bytes.
-pub(crate) fn found_length(k: usize, triangle: usize, lane: usize) -> usize
-    requires { (k < 2 ^ 32) × (triangle < 2 ^ 32) × (lane < 2 ^ 32) }
-    ensures { (result ≡ 64 + length (decimal k) + length (decimal triangle) + length (lane_text lane)) × (result ≤ 100) }
-{
-    64 + decimal_length(k) + decimal_length(triangle) + lane_length(lane)
 }
 
 // The line that there is none.
-pub(crate) fn none_length(k: usize) -> usize
-    requires { k < 2 ^ 32 }
+pub(crate) fn none_length(k: u32) -> usize
     ensures { (result ≡ 9 + length (decimal k)) × (result ≤ 100) }
 {
     9 + decimal_length(k)
-}
-
-// The last line.
-pub(crate) fn asked_length(asked: usize, found: usize) -> usize
-    requires { (asked < 2 ^ 32) × (found < 2 ^ 32) }
-    ensures { (result ≡ 14 + length (decimal asked) + length (decimal found)) × (result ≤ 34) }
-{
-    14 + decimal_length(asked) + decimal_length(found)
-}
-
-// A refusal.
-pub(crate) fn refused_length(number: usize, place: usize) -> usize
-    requires { (number < 2 ^ 32) × (place < 2 ^ 32) }
-    ensures { (result ≡ 13 + length (decimal number) + length (decimal place)) × (result ≤ 33) }
-{
-    13 + decimal_length(number) + decimal_length(place)
 }

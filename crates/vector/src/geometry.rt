@@ -5,6 +5,7 @@ ghost use Rattle.vector.specs.Geometry.{horizontal_of, left_normal_of};
 use crate::coords::Vector;
 
 // `v` without its height.
+#[tactic(auto, unfolding(crate::specs::Geometry::horizontal_of))]
 pub fn horizontal(v: Vector) -> Vector
     ensures { result ≡ horizontal_of v }
 {
@@ -16,6 +17,7 @@ pub fn horizontal(v: Vector) -> Vector
 }
 
 // The unit vector to the left of a heading, zero where that has no horizontal extent.
+#[tactic(auto, unfolding(crate::specs::Geometry::left_normal_of, crate::specs::Coords::up_vector))]
 pub fn left_normal(heading: Vector) -> Vector
     ensures { result ≡ left_normal_of heading }
 {

@@ -1,6 +1,6 @@
 -- Every number of a point's record fits a word of 32 bits: the place of a cell's refusal, the triangle, and the lane, which is a word of the spans. And what the
 -- call for many points leaves is, point by point, the record of the single call. Assumes nothing.
-use Rattle.std.specs.Prelude.{◌≡◌, ℕ, zero, suc, ◌+◌, ◌*◌, ◌/◌, ◌<◌, Bool, true, false, cond, ◌&&◌, List, ◌++◌, length, take, drop, nat_le, nat_lt, slice_index, slice_index_or, Float}
+use Rattle.std.specs.Prelude.{◌≡◌, ℕ, zero, suc, ◌+◌, ◌*◌, ◌/◌, ◌<◌, Bool, true, false, cond, ◌&&◌, List, ◌++◌, length, take, drop, nat_le, nat_lt, slice_index, slice_index_or, Float, Option, Some, None}
 use Rattle.std.proofs.Math.Path.{refl}
 use Rattle.std.proofs.Common.{sym, subst, ap, ◌∙◌, append_assoc, ⊎_elim, eq-or-lt_of_le, le_of_suc-le-suc, arith, take_at, drop_at, lt-ltb}
 use Rattle.std.specs.Float.{nan}
@@ -8,9 +8,6 @@ use Rattle.shape.specs.Lists.{Mesh, mesh_fault, word_of, start_of}
 use Rattle.shape.specs.Gather.{gather}
 use Rattle.shape.proofs.Laws.Gather.{gather_even}
 use Rattle.shape.specs.Refusal.{Fault, fine, fault, Answer, taken, refused, judge, leaves}
-use Rattle.lookup.specs.declared.mesh.Best.{Best}
-use Rattle.lookup.specs.declared.mesh.Best.TheVariants.{At, Nothing}
-use Rattle.lookup.specs.declared.lane.Lane.TheVariants.{Id, None}
 use Rattle.lookup.specs.Mesh.{triangles}
 use Rattle.lookup.specs.Plain.{scan_of, entry_of, lookup_of, plain_of, answer_of}
 use Rattle.lookup.specs.Consult.{Candidates, run_in, consult_of}
@@ -34,27 +31,27 @@ lane_word ss w t =
     let k = past_of ss (3 * t) n in
     go (nat_lt k n && nat_le (start_of 5 3 ss k) (3 * t)) (5 * k + 0)
   where
-    go : (b : Bool) (i : ℕ) → lane_id (cond b (Id (slice_index ss i)) None) < 4294967296
+    go : (b : Bool) (i : ℕ) → lane_id (cond b (Some (slice_index ss i)) None) < 4294967296
     go true i = w i
     go false i = omega arith
 
 module _ (m : Mesh) (x y : Float) (f : mesh_fault m ≡ fine) where
-  triangle_word : (seq : ℕ → ℕ) (n : ℕ) {h : Float} {t : ℕ} → scan_of m.vertices m.indices x y seq n ≡ At h t → t < 4294967296
+  triangle_word : (seq : ℕ → ℕ) (n : ℕ) {h : Float} {t : ℕ} → scan_of m.vertices m.indices x y seq n ≡ Some (h, t) → t < 4294967296
   triangle_word seq n {h} {t} e =
       let l = covers_below m x y t (scan_found m.vertices m.indices x y seq n e).counted in
       let o = in_order m f in
       omega (arith, l, o.indices)
 
-  sample_words : ((i : ℕ) → slice_index m.spans i < 4294967296) → (run : List ℕ) (s : Best)
+  sample_words : ((i : ℕ) → slice_index m.spans i < 4294967296) → (run : List ℕ) (s : (Option (Float × ℕ)))
       → s ≡ scan_of m.vertices m.indices x y (entry_of run) (length run) → RecordFits (taken (sample_of m x y s))
   unfolding RecordFits sample_of
-  sample_words w run (At h t) e = (triangle_word (entry_of run) (length run) (sym e), lane_word m.spans w t)
-  sample_words w run Nothing e = tt
+  sample_words w run (Some (h, t)) e = (triangle_word (entry_of run) (length run) (sym e), lane_word m.spans w t)
+  sample_words w run None e = tt
 
-  lookup_words : (s : Best) → s ≡ scan_of m.vertices m.indices x y (λ t. t) (triangles m.indices) → RecordFits (plain_sample (taken (lookup_of m x y s)))
+  lookup_words : (s : (Option (Float × ℕ))) → s ≡ scan_of m.vertices m.indices x y (λ t. t) (triangles m.indices) → RecordFits (plain_sample (taken (lookup_of m x y s)))
   unfolding RecordFits plain_sample lookup_of
-  lookup_words (At h t) e = (triangle_word (λ t. t) (triangles m.indices) (sym e), omega arith)
-  lookup_words Nothing e = tt
+  lookup_words (Some (h, t)) e = (triangle_word (λ t. t) (triangles m.indices) (sym e), omega arith)
+  lookup_words None e = tt
 
 module _ (m : Mesh) (ws : List ℕ) (x y : Float) (w : (i : ℕ) → slice_index m.spans i < 4294967296) where
   pub top_words : top_fault m ws ≡ fine → RecordFits (top_of m ws x y)

@@ -1,7 +1,7 @@
 -- Demand 3: the indexed lookup, with the plain one of Laws.Plain beside it. Whatever the index, it gives none where the plain lookup gives none, is never
 -- higher, and names the right lane. An index that was built from the mesh is never foreign to it, and where the winner's grown box holds the point the
 -- lookup in it gives the winner, as the plain lookup does. Assumes nothing.
-use Rattle.std.specs.Prelude.{◌≡◌, ℕ, ◌+◌, ◌-◌, ◌≤◌, true, T, List, ◌++◌, length, take, drop, ◌≢◌, nat_lt, Float}
+use Rattle.std.specs.Prelude.{◌≡◌, ℕ, ◌+◌, ◌-◌, ◌≤◌, true, T, List, ◌++◌, length, take, drop, ◌≢◌, nat_lt, Float, Option, Some, None}
 use Rattle.std.proofs.Math.Path.{refl, ap}
 use Rattle.std.proofs.Common.{sym, ◌∙◌, subst, ltb-false}
 use native.Mathlib.Omega.{arith}
@@ -11,8 +11,6 @@ use Rattle.vector.specs.declared.coords.Vector.{Vector}
 use Rattle.shape.specs.Lists.{Mesh, mesh_fault}
 use Rattle.shape.specs.SurfaceMesh.{Given, mesh_of}
 use Rattle.shape.specs.Refusal.{Fault, fine, fault, refuse, Answer, taken, refused, judge, leaves}
-use Rattle.lookup.specs.declared.mesh.Best.{Best}
-use Rattle.lookup.specs.declared.mesh.Best.TheVariants.{At, Nothing}
 use Rattle.lookup.specs.declared.sampler.Detail.{Detail}
 use Rattle.lookup.specs.Mesh.{triangles}
 use Rattle.lookup.specs.Box.{in_box}
@@ -105,15 +103,15 @@ module _ (m : Mesh) (ws : List ℕ) (x y : Float) (h : Float) (n : Vector) (t : 
   unfolding sample_in sample_of
   true_in run e = go (best_of m x y (entry_of run) (length run)) refl e
     where
-      go : (s : Best) → best_of m x y (entry_of run) (length run) ≡ s → sample_of m x y s ≡ hit h n t d → TrueHit m x y h n t d
-      go (At g j) q z =
+      go : (s : (Option (Float × ℕ))) → best_of m x y (entry_of run) (length run) ≡ s → sample_of m x y s ≡ hit h n t d → TrueHit m x y h n t d
+      go (Some (g, j)) q z =
           let f = scan_found m.vertices m.indices x y (entry_of run) (length run) q in
           let u : j ≡ t = cc in
           let v : g ≡ h = cc in
           let w : normal m x y j ≡ n = cc in
           let o : detail_of m j ≡ d = cc in
           rw (← u, ← v, ← w, ← o) (record { covered = f.counted; is_height = f.height; is_normal = refl; is_detail = refl })
-      go Nothing q z = let u : ◌≡◌ {A = ℕ} 0 1 = cc in absurd (omega arith)
+      go None q z = let u : ◌≡◌ {A = ℕ} 0 1 = cc in absurd (omega arith)
 
   pub hit_true : top_of m ws x y ≡ taken (hit h n t d) → TrueHit m x y h n t d
   unfolding top_of onward

@@ -1,5 +1,6 @@
 -- The extent of a mesh's boxes holds each of them, NaN bounds passed over; its bounds are singles; and the cell's side is at least 1e-3. Assumes nothing.
-use Rattle.std.specs.Prelude.{◌≡◌, ℕ, zero, suc, ◌/◌, ◌<◌, Bool, true, false, cond, ◌&&◌, T, List, length, pos, nat_lt, refl, Float}
+use Rattle.std.specs.Prelude.{◌≡◌, ℕ, zero, suc, ◌/◌, ◌<◌, Bool, true, false, cond, ◌&&◌, T, List, length, pos, nat_lt, refl, Float, Option, Some, None}
+use Rattle.vector.specs.declared.coords.Point.{Point}
 use Rattle.std.proofs.Common.{sym, ap, ◌∙◌, subst, ⊎_elim, not-suc-le-zero, eq-or-lt_of_le, le_of_suc-le-suc, arith, ltb-true}
 use Rattle.std.specs.Float.{fin}
 use Rattle.std.specs.Float.Ieee.{binary32, fits, of_bits, eq, le}
@@ -16,11 +17,7 @@ use Rattle.lookup.specs.Mesh.{triangles, present, corners_of, corner_of, index_o
 use Rattle.lookup.specs.Box.{grown_of, grown_box, box_of, merge_of}
 use Rattle.lookup.specs.Frame.{join_of, extent_of, count_of, milli, cell_of}
 use Rattle.lookup.proofs.Laws.Parts.{cases}
-use Rattle.lookup.specs.declared.mesh.Fetch.{Fetch}
-use Rattle.lookup.specs.declared.mesh.Fetch.TheVariants.{Corners, Missing}
 use Rattle.lookup.specs.declared.boxes.Aabb.{Aabb}
-use Rattle.lookup.specs.declared.boxes.Boxed.{Boxed}
-use Rattle.lookup.specs.declared.boxes.Boxed.TheVariants.{Box, None}
 
 -- ---- the extent holds each box
 
@@ -31,8 +28,8 @@ pub record Around (b e : Aabb) : Type 0 where
   pub low : IsNum b.min_y → T (le e.min_y b.min_y)
   pub high : IsNum b.max_y → T (le b.max_y e.max_y)
 
-abbrev pub InExtent : Aabb → Boxed → Type 0
-InExtent b (Box e) = Around b e
+abbrev pub InExtent : Aabb → (Option Aabb) → Type 0
+InExtent b (Some e) = Around b e
 InExtent b None = ⊥
 
 around_self : (b : Aabb) → Around b b
@@ -64,23 +61,23 @@ around_second a b =
       high = λ n. (max_picks a.max_y b.max_y).right n;
     }
 
-join_keeps : (b : Aabb) (x y : Boxed) → InExtent b x → InExtent b (join_of x y)
+join_keeps : (b : Aabb) (x y : (Option Aabb)) → InExtent b x → InExtent b (join_of x y)
 unfolding join_of
-join_keeps b (Box a) (Box c) r = around_first b a c r
-join_keeps b (Box a) None r = r
+join_keeps b (Some a) (Some c) r = around_first b a c r
+join_keeps b (Some a) None r = r
 join_keeps b None y r = absurd r
 
-join_takes : (b : Aabb) (x : Boxed) → InExtent b (join_of x (Box b))
+join_takes : (b : Aabb) (x : (Option Aabb)) → InExtent b (join_of x (Some b))
 unfolding join_of
-join_takes b (Box a) = around_second a b
+join_takes b (Some a) = around_second a b
 join_takes b None = around_self b
 
-pub extent_holds : (vs : List Float) (is : List ℕ) (n t : ℕ) (b : Aabb) → t < n → box_of vs is t ≡ Box b → InExtent b (extent_of vs is n)
+pub extent_holds : (vs : List Float) (is : List ℕ) (n t : ℕ) (b : Aabb) → t < n → box_of vs is t ≡ Some b → InExtent b (extent_of vs is n)
 unfolding extent_of
 extent_holds vs is zero t b l e = absurd (not-suc-le-zero l)
 extent_holds vs is (suc n) t b l e =
     ⊎_elim
-    (λ (w : t ≡ n). subst (λ (x : Boxed). InExtent b (join_of (extent_of vs is n) x)) (sym (ap (box_of vs is) (sym w) ∙ e)) (join_takes b (extent_of vs is n)))
+    (λ (w : t ≡ n). subst (λ (x : (Option Aabb)). InExtent b (join_of (extent_of vs is n) x)) (sym (ap (box_of vs is) (sym w) ∙ e)) (join_takes b (extent_of vs is n)))
     (λ (w : t < n). join_keeps b (extent_of vs is n) (box_of vs is n) (extent_holds vs is n t b w e))
     (eq-or-lt_of_le (le_of_suc-le-suc l))
 
@@ -92,8 +89,8 @@ pub record Fit (b : Aabb) : Type 0 where
   pub low : T (fits binary32 b.min_y)
   pub high : T (fits binary32 b.max_y)
 
-abbrev pub Fits : Boxed → Type 0
-Fits (Box b) = Fit b
+abbrev pub Fits : (Option Aabb) → Type 0
+Fits (Some b) = Fit b
 Fits None = Unit {0}
 
 pick_fits : {rel : Float → Float → Bool} (x y r : Float) → Picks rel x y r → T (fits binary32 x) → T (fits binary32 y) → T (fits binary32 r)
@@ -117,15 +114,15 @@ box_fits : (vs : List Float) (is : List ℕ) (t : ℕ) → Fits (box_of vs is t)
 unfolding box_of grown_box
 box_fits vs is t = go (corners_of vs is t)
   where
-    go : (c : Fetch) → Fits (grown_box c)
-    go (Corners a b c) = grown_fit _
-    go Missing = tt
+    go : (c : (Option (Point × Point × Point))) → Fits (grown_box c)
+    go (Some (a, b, c)) = grown_fit _
+    go None = tt
 
-join_fits : (x y : Boxed) → Fits x → Fits y → Fits (join_of x y)
+join_fits : (x y : (Option Aabb)) → Fits x → Fits y → Fits (join_of x y)
 unfolding join_of
-join_fits (Box a) (Box b) h k = merge_fit a b h k
-join_fits (Box a) None h k = h
-join_fits None (Box b) h k = k
+join_fits (Some a) (Some b) h k = merge_fit a b h k
+join_fits (Some a) None h k = h
+join_fits None (Some b) h k = k
 join_fits None None h k = tt
 
 pub extent_fits : (vs : List Float) (is : List ℕ) (n : ℕ) → Fits (extent_of vs is n)
@@ -172,12 +169,12 @@ module _ (w h : Float) (cols rows : ℕ) where
 
 -- ---- a triangle with a box is one of the mesh
 
-pub box_there : (vs : List Float) (is : List ℕ) (t : ℕ) (b : Aabb) → box_of vs is t ≡ Box b → t < triangles is
+pub box_there : (vs : List Float) (is : List ℕ) (t : ℕ) (b : Aabb) → box_of vs is t ≡ Some b → t < triangles is
 unfolding box_of corners_of grown_box present
 box_there vs is t b e = go (nat_lt t (triangles is)) refl e
   where
     go : (k : Bool) → nat_lt t (triangles is) ≡ k
-        → grown_box (cond (k && nat_lt (index_of is t 0) (length vs / 3) && nat_lt (index_of is t 1) (length vs / 3) && nat_lt (index_of is t 2) (length vs / 3)) (Corners (corner_of vs is t 0) (corner_of vs is t 1) (corner_of vs is t 2)) Missing) ≡ Box b
+        → grown_box (cond (k && nat_lt (index_of is t 0) (length vs / 3) && nat_lt (index_of is t 1) (length vs / 3) && nat_lt (index_of is t 2) (length vs / 3)) (Some ((corner_of vs is t 0), (corner_of vs is t 1), (corner_of vs is t 2))) None) ≡ Some b
         → t < triangles is
     go true p q = ltb-true t (triangles is) p
     go false p q = absurd (let z : ◌≡◌ {A = ℕ} 0 1 = cc in omega arith)

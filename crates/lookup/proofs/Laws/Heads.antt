@@ -1,5 +1,5 @@
 -- What `consult` finds in any words: the tests of the head, the spot of a point, the entries of a run. Assumes nothing.
-use Rattle.std.specs.Prelude.{◌≡◌, ℕ, zero, suc, ◌+◌, ◌-◌, ◌*◌, ◌<◌, ◌≤◌, Bool, true, false, cond, not, ◌&&◌, ◌||◌, List, length, ◌==◌, ◌≢◌, nat_le, nat_lt, refl, Float}
+use Rattle.std.specs.Prelude.{◌≡◌, ℕ, zero, suc, ◌+◌, ◌-◌, ◌*◌, ◌<◌, ◌≤◌, Bool, true, false, cond, not, ◌&&◌, ◌||◌, List, length, ◌==◌, ◌≢◌, nat_le, nat_lt, refl, Float, Some, None}
 use Rattle.std.proofs.Common.{sym, ap, ◌∙◌, ⊎_elim, mul-le-mul, eq-or-lt_of_le, le_of_suc-le-suc, arith}
 use borrow.Author.Tests.{lt-ltb, le-ltb, le-leb, lt-leb, eq-eqb, ne_eqb, leb-true, not-false}
 use Rattle.std.proofs.Math.Arith.{digits_lt}
@@ -11,7 +11,6 @@ use Rattle.shape.specs.Refusal.{fine, fault, refuse, or_else, Answer, taken, ref
 use Rattle.shape.proofs.Laws.Refusal.{passed}
 use Rattle.lookup.specs.Consult.{word_at, float_at, sides, declares, head_fault, inside, cell_at, entry_fault, start_at, first_at, start_fault, Candidates, nowhere, run, run_of, consult_of}
 use Rattle.lookup.specs.Steps.{Sided, cell_or_outside}
-use Rattle.lookup.specs.declared.consult.PointCell.TheVariants.{Cell, Outside}
 use Rattle.lookup.proofs.Laws.Parts.{both}
 
 -- ---- the sides
@@ -118,39 +117,39 @@ module _ (ws : List ℕ) (count from : ℕ) where
 -- ---- the spot
 
 module _ (ws : List ℕ) (x y a b p q : Float) (ea : a ≡ float_at ws 3) (eb : b ≡ float_at ws 4) (ep : p ≡ float_at ws 5) (eq : q ≡ float_at ws 6) where
-  pub cell_in : (k : ℕ) → le a x ≡ true → le x p ≡ true → le b y ≡ true → le y q ≡ true → k ≡ cell_at ws x y → Cell k ≡ cell_or_outside ws x y
+  pub cell_in : (k : ℕ) → le a x ≡ true → le x p ≡ true → le b y ≡ true → le y q ≡ true → k ≡ cell_at ws x y → Some k ≡ cell_or_outside ws x y
   unfolding cell_or_outside inside
   cell_in k h i j l e = rw (← ea, ← eb, ← ep, ← eq, h, i, j, l, e)
 
-  pub cell_left : le a x ≡ false → Outside ≡ cell_or_outside ws x y
+  pub cell_left : le a x ≡ false → None ≡ cell_or_outside ws x y
   unfolding cell_or_outside inside
   cell_left h = rw (← ea, h)
 
-  pub cell_right : le a x ≡ true → le x p ≡ false → Outside ≡ cell_or_outside ws x y
+  pub cell_right : le a x ≡ true → le x p ≡ false → None ≡ cell_or_outside ws x y
   unfolding cell_or_outside inside
   cell_right h i = rw (← ea, ← ep, h, i)
 
-  pub cell_low : le a x ≡ true → le x p ≡ true → le b y ≡ false → Outside ≡ cell_or_outside ws x y
+  pub cell_low : le a x ≡ true → le x p ≡ true → le b y ≡ false → None ≡ cell_or_outside ws x y
   unfolding cell_or_outside inside
   cell_low h i j = rw (← ea, ← ep, ← eb, h, i, j)
 
-  pub cell_high : le a x ≡ true → le x p ≡ true → le b y ≡ true → le y q ≡ false → Outside ≡ cell_or_outside ws x y
+  pub cell_high : le a x ≡ true → le x p ≡ true → le b y ≡ true → le y q ≡ false → None ≡ cell_or_outside ws x y
   unfolding cell_or_outside inside
   cell_high h i j l = rw (← ea, ← ep, ← eb, ← eq, h, i, j, l)
 
-pub cell_is : (ws : List ℕ) (x y : Float) (c : ℕ) → Cell c ≡ cell_or_outside ws x y → (inside ws x y ≡ true) × (c ≡ cell_at ws x y)
+pub cell_is : (ws : List ℕ) (x y : Float) (c : ℕ) → Some c ≡ cell_or_outside ws x y → (inside ws x y ≡ true) × (c ≡ cell_at ws x y)
 unfolding cell_or_outside
 cell_is ws x y c e = go (inside ws x y) e
   where
-    go : (b : Bool) → Cell c ≡ cond b (Cell (cell_at ws x y)) Outside → (b ≡ true) × (c ≡ cell_at ws x y)
+    go : (b : Bool) → Some c ≡ cond b (Some (cell_at ws x y)) None → (b ≡ true) × (c ≡ cell_at ws x y)
     go true k = (refl, cc)
     go false k = absurd (let z : ◌≡◌ {A = ℕ} 0 1 = cc in omega arith)
 
-pub cell_none : (ws : List ℕ) (x y : Float) → Outside ≡ cell_or_outside ws x y → inside ws x y ≡ false
+pub cell_none : (ws : List ℕ) (x y : Float) → None ≡ cell_or_outside ws x y → inside ws x y ≡ false
 unfolding cell_or_outside
 cell_none ws x y e = go (inside ws x y) e
   where
-    go : (b : Bool) → Outside ≡ cond b (Cell (cell_at ws x y)) Outside → b ≡ false
+    go : (b : Bool) → None ≡ cond b (Some (cell_at ws x y)) None → b ≡ false
     go true k = absurd (let z : ◌≡◌ {A = ℕ} 0 1 = cc in omega arith)
     go false k = refl
 

@@ -1,6 +1,6 @@
 -- What `consult` finds in the words of an index that was built from a mesh, whatever stands past them: the words are never foreign, the run handed over is
 -- the candidates of the point, which rise and are triangles of the mesh, and a triangle whose grown box holds the point is among them. Assumes nothing.
-use Rattle.std.specs.Prelude.{◌≡◌, ℕ, zero, suc, ◌+◌, ◌-◌, ◌*◌, ◌<◌, ◌≤◌, Bool, true, false, cond, ◌&&◌, T, List, [], ◌++◌, length, take, drop, ◌≢◌, slice_index, slice_index_or, Float}
+use Rattle.std.specs.Prelude.{◌≡◌, ℕ, zero, suc, ◌+◌, ◌-◌, ◌*◌, ◌<◌, ◌≤◌, Bool, true, false, cond, ◌&&◌, T, List, [], ◌++◌, length, take, drop, ◌≢◌, slice_index, slice_index_or, Float, Option, Some, None}
 use Rattle.std.proofs.Math.Path.{refl, sym, ap, ap₂}
 use Rattle.std.proofs.Common.{◌∙◌, subst, true≢false, append_assoc, not-suc-le-zero}
 use native.Mathlib.Omega.{arith}
@@ -28,8 +28,6 @@ use Rattle.lookup.proofs.Laws.Reading.{length_index, index_start, index_run, Sta
 use Rattle.lookup.proofs.Laws.Heads.{sides_fine, head_fine, head_none, entry_none, entry_step, run_fine, consult_none, consult_out, consult_in}
 use Rattle.lookup.proofs.Laws.Extent.{Around, InExtent, extent_holds, Fit, Fits, extent_fits, cell_width, cell_back, box_there}
 use Rattle.lookup.specs.declared.boxes.Aabb.{Aabb}
-use Rattle.lookup.specs.declared.boxes.Boxed.{Boxed}
-use Rattle.lookup.specs.declared.boxes.Boxed.TheVariants.{Box, None}
 use Rattle.lookup.specs.declared.frame.Frame.{Frame}
 
 -- consulted at (x, y), the words hand over a run
@@ -187,8 +185,8 @@ pub hands : (vs : List Float) (is rest : List ℕ) (x y : Float) → Hands (inde
 unfolding index_words candidates_of words_over candidates_over frame_of within
 hands vs is rest x y = go (extent_of vs is (triangles is)) (extent_fits vs is (triangles is))
   where
-    go : (b : Boxed) → Fits b → Hands (words_over vs is b ++ rest) (triangles is) x y (candidates_over vs is b x y)
-    go (Box e) k = let count = boxes_of vs is (triangles is) in hands_grid vs is (frame_of e count) (sound_frame e count k) rest x y (within e x y) refl
+    go : (b : (Option Aabb)) → Fits b → Hands (words_over vs is b ++ rest) (triangles is) x y (candidates_over vs is b x y)
+    go (Some e) k = let count = boxes_of vs is (triangles is) in hands_grid vs is (frame_of e count) (sound_frame e count k) rest x y (within e x y) refl
     go None k = hands_none (triangles is) rest x y
 
 -- "it is never foreign to that mesh"
@@ -207,8 +205,8 @@ module _ (vs : List Float) (is : List ℕ) (x y : Float) where
       pick true xs k = k
       pick false xs k = p
 
-      go : (b : Boxed) → P (candidates_over vs is b x y)
-      go (Box e) = pick (within e x y) (candidates_in vs is (frame_of e (boxes_of vs is (triangles is))) x y) (q (holds (blocks_of vs is (frame_of e (boxes_of vs is (triangles is)))) (frame_of e (boxes_of vs is (triangles is))).cols) (frame_cell (frame_of e (boxes_of vs is (triangles is))) x y))
+      go : (b : (Option Aabb)) → P (candidates_over vs is b x y)
+      go (Some e) = pick (within e x y) (candidates_in vs is (frame_of e (boxes_of vs is (triangles is))) x y) (q (holds (blocks_of vs is (frame_of e (boxes_of vs is (triangles is)))) (frame_of e (boxes_of vs is (triangles is))).cols) (frame_cell (frame_of e (boxes_of vs is (triangles is))) x y))
       go None = p
 
   pub candidates_rise : (p q : ℕ) → p < q → q < length (candidates_of vs is x y) → slice_index (candidates_of vs is x y) p < slice_index (candidates_of vs is x y) q
@@ -248,11 +246,11 @@ within_extent b e x y r w =
     rw (l, h, d, u)
 
 -- and its cell is one of the box's
-cell_held : (vs : List Float) (is : List ℕ) (f : Frame) (t : ℕ) (b : Aabb) (x y : Float) → Framed f → Width f.cell → box_of vs is t ≡ Box b → Within b x y
+cell_held : (vs : List Float) (is : List ℕ) (f : Frame) (t : ℕ) (b : Aabb) (x y : Float) → Framed f → Width f.cell → box_of vs is t ≡ Some b → Within b x y
     → holds (blocks_of vs is f) f.cols t (frame_cell f x y) ≡ true
 unfolding frame_cell blocks_of block_of
 cell_held vs is f t b x y k w e i =
-    let q : blocks_of vs is f t ≡ block_of f (Box b) = ap (block_of f) e in
+    let q : blocks_of vs is f t ≡ block_of f (Some b) = ap (block_of f) e in
     let u = col_between binary32 f.min_x f.cell f.cols b.min_x x b.max_x w i.left i.right in
     let v = col_between binary32 f.min_y f.cell f.rows b.min_y y b.max_y w i.low i.high in
     holds_at (blocks_of vs is f) f.cols f.rows t (inside_of vs is k t) (col binary32 f.min_x f.cell f.cols x) (col binary32 f.min_y f.cell f.rows y)
@@ -263,16 +261,16 @@ pub candidate : (vs : List Float) (is : List ℕ) (t : ℕ) (x y : Float) → in
 unfolding in_box in_boxed candidates_of candidates_over candidates_in
 candidate vs is t x y e = boxed (box_of vs is t) refl e
   where
-    over : (b : Aabb) → box_of vs is t ≡ Box b → Within b x y → (k : Boxed) → Fits k → InExtent b k → Stands t (candidates_over vs is k x y)
-    over b p w (Box e) m r =
+    over : (b : Aabb) → box_of vs is t ≡ Some b → Within b x y → (k : (Option Aabb)) → Fits k → InExtent b k → Stands t (candidates_over vs is k x y)
+    over b p w (Some e) m r =
         let f = frame_of e (boxes_of vs is (triangles is)) in
         let s = sound_frame e (boxes_of vs is (triangles is)) m in
         subst (λ (z : Bool). Stands t (cond z (candidates_in vs is f x y) [])) (sym (within_extent b e x y r w))
         (run_holds (holds (blocks_of vs is f) f.cols) (frame_cell f x y) (triangles is) t (box_there vs is t b p) (cell_held vs is f t b x y s.counts s.width p w))
     over b p w None m r = absurd r
 
-    boxed : (k : Boxed) → box_of vs is t ≡ k → in_boxed k x y ≡ true → Stands t (candidates_of vs is x y)
-    boxed (Box b) p q = over b p (within_is b x y q) (extent_of vs is (triangles is)) (extent_fits vs is (triangles is)) (extent_holds vs is (triangles is) t b (box_there vs is t b p) p)
+    boxed : (k : (Option Aabb)) → box_of vs is t ≡ k → in_boxed k x y ≡ true → Stands t (candidates_of vs is x y)
+    boxed (Some b) p q = over b p (within_is b x y q) (extent_of vs is (triangles is)) (extent_fits vs is (triangles is)) (extent_holds vs is (triangles is) t b (box_there vs is t b p) p)
     boxed None p q = absurd (true≢false (sym q))
 
 -- ---- after building

@@ -1,6 +1,6 @@
 -- Demand 3, the lane: over a mesh that came from lanes, the lane named for a triangle is the one whose strip holds it; every triangle is in one strip; and such
 -- a mesh is in order. Assumes nothing.
-use Rattle.std.specs.Prelude.{◌≡◌, ℕ, zero, suc, ◌+◌, ◌*◌, ◌/◌, ◌%◌, ◌<◌, ◌≤◌, Bool, false, List, [], ◌∷◌, length, ◌≢◌, slice_index, refl}
+use Rattle.std.specs.Prelude.{◌≡◌, ℕ, zero, suc, ◌+◌, ◌*◌, ◌/◌, ◌%◌, ◌<◌, ◌≤◌, Bool, false, List, [], ◌∷◌, length, ◌≢◌, slice_index, refl, Some}
 use Prim.Native.Nat.{zero-le}
 use Rattle.std.proofs.Common.{sym, ◌∙◌, arith}
 use Rattle.std.proofs.Math.Path.{ap}
@@ -16,7 +16,6 @@ use Rattle.shape.specs.SurfaceMesh.{Given, lanes_of, lane_at, lane_vertices, lan
 use Rattle.shape.proofs.Laws.Gather.{gather_fits, gather_at, gather_even, gather_owner, Multiple, gather_multiple}
 use Rattle.shape.proofs.Laws.MeshMemory.{both_fine, room_fits}
 use Rattle.shape.proofs.Laws.SurfaceMesh.{base_next, index_next, index_owner, owner_ribs, normals_match}
-use Rattle.lookup.specs.declared.lane.Lane.TheVariants.{Id}
 use Rattle.lookup.specs.Mesh.{triangles}
 use Rattle.lookup.specs.Sampler.{past_of, lane_of}
 use Rattle.lookup.specs.Demand3.{InStrip, id_of}
@@ -106,11 +105,11 @@ module _ (g : Given) where
         (λ j h. omega (arith, ends_before k j (omega (arith, s.lane)) h, s.from))
         (λ l. let w : end_of 5 3 (mesh_of g).spans (spans_before k) ≡ index_of g (k + 1) = span_is k 4 s.lane ribs (omega arith) in omega (arith, w, s.to)))
 
-    pub strip_lane : lane_of (mesh_of g).spans t ≡ Id (id_of g k)
+    pub strip_lane : lane_of (mesh_of g).spans t ≡ Some (id_of g k)
     strip_lane =
         let w : start_of 5 3 (mesh_of g).spans (spans_before k) ≡ index_of g k = span_is k 3 s.lane ribs (omega arith) in
         let i : word_of 5 (mesh_of g).spans (spans_before k) 0 ≡ id_of g k = span_is k 0 s.lane ribs (omega arith) in
-        sym (lane_of_span (mesh_of g).spans t (spans_before k) span_found below (omega (arith, w, s.from))) ∙ ap (λ (a : ℕ). Id a) i
+        sym (lane_of_span (mesh_of g).spans t (spans_before k) span_found below (omega (arith, w, s.from))) ∙ ap (λ (a : ℕ). Some a) i
 
   -- every triangle of the mesh is in a strip
   pub record Stripped (t : ℕ) : Type 0 where

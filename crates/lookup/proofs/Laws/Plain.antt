@@ -1,15 +1,13 @@
 -- Demand 3, the plain lookup. Where no covering height is a NaN it answers the winner: the covering triangle of greatest height, the lowest-numbered among
 -- equals, with its worked-out height and its normal. It answers none exactly where no triangle covers the point, NaN or not.
 -- And what a scan over any run of triangle numbers has to do with the winner. Assumes nothing.
-use Rattle.std.specs.Prelude.{◌≡◌, ℕ, ◌<◌, ◌≤◌, Bool, true, false, ◌&&◌, T, ◌↔◌, List, refl, Float}
+use Rattle.std.specs.Prelude.{◌≡◌, ℕ, ◌<◌, ◌≤◌, Bool, true, false, ◌&&◌, T, ◌↔◌, List, refl, Float, Option, Some, None}
 use Rattle.std.proofs.Common.{arith, sym, subst, ◌∙◌, ltb-true}
 use Rattle.std.proofs.Math.Decide.{dec_lt}
 use Rattle.std.specs.Float.Ieee.{le, eq}
 use Rattle.rounding.proofs.Laws.Order.{num_not_nan, not_nan_num, le_num_left, le_antisym, ge_of_eq}
 use Rattle.shape.specs.Lists.{Mesh, mesh_fault}
 use Rattle.shape.specs.Refusal.{Fault, fine, fault, taken, judge}
-use Rattle.lookup.specs.declared.mesh.Best.{Best}
-use Rattle.lookup.specs.declared.mesh.Best.TheVariants.{At, Nothing}
 use Rattle.lookup.specs.Mesh.{triangles, present}
 use Rattle.lookup.specs.Cover.{covers}
 use Rattle.lookup.specs.Plain.{scan_of, Lookup, gives, none, lookup_of, plain_of, answer_of}
@@ -17,10 +15,10 @@ use Rattle.lookup.specs.Winner.{Covers, Uncovered, height, normal, Wins, NoNan, 
 use Rattle.lookup.proofs.Laws.Scan.{Numbers, Leads, Leading, scan_leads, scan_nothing}
 
 -- the best of the first n triangles of a sequence, and of all
-abbrev pub best_of : Mesh → Float → Float → (ℕ → ℕ) → ℕ → Best
+abbrev pub best_of : Mesh → Float → Float → (ℕ → ℕ) → ℕ → (Option (Float × ℕ))
 best_of m x y seq n = scan_of m.vertices m.indices x y seq n
 
-abbrev pub best_of_all : Mesh → Float → Float → Best
+abbrev pub best_of_all : Mesh → Float → Float → (Option (Float × ℕ))
 best_of_all m x y = best_of m x y (λ t. t) (triangles m.indices)
 
 -- ---- a covering triangle is a triangle of the mesh
@@ -70,10 +68,10 @@ module _ (m : Mesh) (x y : Float) where
       low j c e (yes b) = absurd (l.first (numbers nn) j b c (subst (λ (z : Float). T (le z (height m x y j))) (sym l.height) (ge_of_eq _ _ e)))
       low j c e (no b) = omega (arith, l.named)
 
-  lookup_right : NoNan m x y → (s : Best) → Leading m.vertices m.indices x y (λ t. t) (triangles m.indices) s → Right m x y (lookup_of m x y s)
+  lookup_right : NoNan m x y → (s : (Option (Float × ℕ))) → Leading m.vertices m.indices x y (λ t. t) (triangles m.indices) s → Right m x y (lookup_of m x y s)
   unfolding lookup_of
-  lookup_right nn Nothing l = λ j c. l j (covers_below m x y j c) c
-  lookup_right nn (At h k) l = (leader_wins nn h k l, l.height, refl)
+  lookup_right nn None l = λ j c. l j (covers_below m x y j c) c
+  lookup_right nn (Some (h, k)) l = (leader_wins nn h k l, l.height, refl)
 
   pub plain_right : NoNan m x y → Right m x y (plain_of m x y)
   unfolding plain_of
@@ -88,10 +86,10 @@ module _ (m : Mesh) (x y : Float) where
   plain_winner k w = winner_of k w (plain_of m x y) (plain_right (wins_no_nan k w))
 
   -- none, NaN or not
-  none_of : (s : Best) → Leading m.vertices m.indices x y (λ t. t) (triangles m.indices) s → lookup_of m x y s ≡ none → Uncovered m x y
+  none_of : (s : (Option (Float × ℕ))) → Leading m.vertices m.indices x y (λ t. t) (triangles m.indices) s → lookup_of m x y s ≡ none → Uncovered m x y
   unfolding lookup_of
-  none_of Nothing l e = λ j c. l j (covers_below m x y j c) c
-  none_of (At h k) l e = let z : ◌≡◌ {A = ℕ} 0 1 = cc in absurd (omega arith)
+  none_of None l e = λ j c. l j (covers_below m x y j c) c
+  none_of (Some (h, k)) l e = let z : ◌≡◌ {A = ℕ} 0 1 = cc in absurd (omega arith)
 
   pub plain_none : (plain_of m x y ≡ none) ↔ Uncovered m x y
   unfolding plain_of lookup_of
@@ -142,9 +140,9 @@ module _ (m : Mesh) (x y : Float) where
       nn : NoNan m x y
       nn = wins_no_nan k w
 
-      same_leader : (s : Best) → Leading m.vertices m.indices x y seq n s → s ≡ At (height m x y k) k
-      same_leader Nothing l = absurd (l q within covered_there)
-      same_leader (At g j) l =
+      same_leader : (s : (Option (Float × ℕ))) → Leading m.vertices m.indices x y seq n s → s ≡ Some ((height m x y k), k)
+      same_leader None l = absurd (l q within covered_there)
+      same_leader (Some (g, j)) l =
           let up : T (le (height m x y k) (height m x y j)) = rw (named, l.height) at (l.greatest (numbers nn) q within covered_there) in
           let down : T (le (height m x y j) (height m x y k)) = w.greatest j l.counted in
           let low : k ≤ j = w.lowest j l.counted (le_antisym (height m x y j) (height m x y k) down up) in
@@ -154,5 +152,5 @@ module _ (m : Mesh) (x y : Float) where
           let e : j ≡ k = omega arith in
           rw (l.height, e)
 
-      pub run_winner : best_of m x y seq n ≡ At (height m x y k) k
+      pub run_winner : best_of m x y seq n ≡ Some ((height m x y k), k)
       run_winner = same_leader (best_of m x y seq n) (scan_leads m.vertices m.indices x y seq n)

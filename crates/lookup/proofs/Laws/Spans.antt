@@ -1,5 +1,5 @@
 -- Which span the lane of a triangle is read from. Assumes nothing.
-use Rattle.std.specs.Prelude.{◌≡◌, ℕ, zero, suc, ◌*◌, ◌/◌, ◌<◌, ◌≤◌, false, List, length, nat_lt}
+use Rattle.std.specs.Prelude.{◌≡◌, ℕ, zero, suc, ◌*◌, ◌/◌, ◌<◌, ◌≤◌, false, List, length, nat_lt, Some, None}
 use Rattle.std.proofs.Common.{sym, arith, le_refl}
 use Rattle.std.proofs.Math.Decide.{dec_lt}
 use borrow.Author.Tests.{lt-ltb, le-ltb, le-leb, lt-leb}
@@ -7,7 +7,6 @@ use Rattle.shape.specs.Gather.{any}
 use Rattle.shape.proofs.Laws.Gather.{least_at, least_none}
 use Rattle.shape.specs.Lists.{word_of, start_of, end_of, last_end, run_bad}
 use Rattle.shape.proofs.Laws.Lists.{sound}
-use Rattle.lookup.specs.declared.lane.Lane.TheVariants.{Id, None}
 use Rattle.lookup.specs.Sampler.{EndsRise, past_of, lane_of}
 
 -- where no run of indices is ragged, their ends rise
@@ -32,7 +31,7 @@ past_is ss i n q l b p = go (dec_lt q n)
         rw z (sym (least_none (λ k. nat_lt i (end_of 5 3 ss k)) n (λ j m. le-ltb i (end_of 5 3 ss j) (b j (omega arith)))))
 
 module _ (ss : List ℕ) (t k : ℕ) (q : k ≡ past_of ss (3 * t) (length ss / 5)) where
-  pub lane_of_span : k < length ss / 5 → start_of 5 3 ss k ≤ 3 * t → Id (word_of 5 ss k 0) ≡ lane_of ss t
+  pub lane_of_span : k < length ss / 5 → start_of 5 3 ss k ≤ 3 * t → Some (word_of 5 ss k 0) ≡ lane_of ss t
   unfolding lane_of
   lane_of_span l s = rw (← q) (simp (lt-ltb k (length ss / 5) l, le-leb (start_of 5 3 ss k) (3 * t) s))
 

@@ -1,6 +1,6 @@
 -- The root of a number next to 1 is finite and above 0 (`near_positive`): what a caller of `root_near_one` divides by. Assumes nothing.
-use Rattle.std.specs.Prelude.{◌≡◌, Bool, true, false, cond, T, negsuc, refl, Float}
-use Rattle.std.proofs.Common.{sym, ap, ◌∙◌}
+use Rattle.std.specs.Prelude.{◌≡◌, Bool, true, false, cond, T, negsuc, Some, None, refl, Float}
+use Rattle.std.proofs.Common.{subst}
 use Rattle.std.specs.Float.{nan, inf, fin, binary32}
 use Rattle.std.specs.Float.Ieee.{of_bits, le, lt}
 use Rattle.std.specs.Float.Ieee.Bits.{is_true}
@@ -61,8 +61,9 @@ near_root x e =
     }
 
 -- as `root_near_one` answers
-pub near_positive : (x r : Float) (is : Bool) → is ≡ near_one x → r ≡ cond (near_one x) (sqrt_of binary32 x) x → is ≡ true → PositiveRoot x r
-near_positive x r is i e t =
-    let n : near_one x ≡ true = sym i ∙ t in
-    let v : r ≡ sqrt_of binary32 x = e ∙ ap (λ (b : Bool). cond b (sqrt_of binary32 x) x) n in
-    rw v (near_root x n)
+pub near_positive : (x r : Float) → Some r ≡ cond (near_one x) (Some (sqrt_of binary32 x)) None → PositiveRoot x r
+near_positive x r e = go (near_one x) refl e
+  where
+    go : (b : Bool) → near_one x ≡ b → Some r ≡ cond b (Some (sqrt_of binary32 x)) None → PositiveRoot x r
+    go true n h = let v : sqrt_of binary32 x ≡ r = cc in subst (PositiveRoot x) v (near_root x n)
+    go false n h = cc

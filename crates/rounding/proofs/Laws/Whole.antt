@@ -13,7 +13,9 @@ use Rattle.std.specs.Float.Ieee.Back.{round_whole}
 use Rattle.std.specs.Float.Ieee.Exact.{HasValue}
 use Rattle.std.specs.Float.Ieee.Nearest.{div_mono}
 use Rattle.std.specs.Float.Ieee.Positive.{first_pos}
-use Rattle.rounding.specs.Whole.{Way, toward, half, away, moves, one_if, whole_by, whole_of, ways, floor_of, ceil_of, round_of}
+use Rattle.rounding.specs.declared.whole.Way.{Way}
+use Rattle.rounding.specs.declared.whole.Way.TheVariants.{TowardZero, HalfAway, AwayFromZero}
+use Rattle.rounding.specs.Whole.{moves, one_if, whole_by, whole_of, ways, floor_of, ceil_of, round_of}
 use Rattle.rounding.proofs.Laws.Signed.{Cross, cross_trans}
 use Rattle.rounding.proofs.Laws.Order.{Le, le→Le, Le-right, le_bottom, le_top, le_refl}
 use Rattle.rounding.specs.Numbers.{IsNum}
@@ -40,10 +42,10 @@ one_if_mono false c h = zero-le
 
 -- r / b is at most t / d
 moves_mono : (w : Way) (r b t d : ℕ) → 0 < b → 0 < d → r * d ≤ t * b → T (moves w r b) → T (moves w t d)
-moves_mono toward r b t d B D e h = h
-moves_mono half r b t d B D e h =
+moves_mono TowardZero r b t d B D e h = h
+moves_mono HalfAway r b t d B D e h =
     le→leb d (2 * t) (le_of_mul-le-mul_right (let x : b * d ≤ 2 * r * d = mul-le-mul_right d (leb→le b (2 * r) h) in omega arith) B)
-moves_mono away r b t d B D e h = le→leb 1 t (first_pos t b (lt_of_lt_of_le (mul-pos (leb→le 1 r h) D) e))
+moves_mono AwayFromZero r b t d B D e h = le→leb 1 t (first_pos t b (lt_of_lt_of_le (mul-pos (leb→le 1 r h) D) e))
 
 -- it grows with the size
 pub size_mono : (w : Way) (a c b d : ℕ) → 0 < c → 0 < d → a * d ≤ b * c → whole_size w a c ≤ whole_size w b d
@@ -67,9 +69,9 @@ whole_by_same f s w a b c d B D e = whole_by_is f s w a b ∙ ap (λ (x : ℕ). 
 
 -- a whole number stays
 nothing_moves : (w : Way) → moves w 0 1 ≡ false
-nothing_moves toward = refl
-nothing_moves half = refl
-nothing_moves away = refl
+nothing_moves TowardZero = refl
+nothing_moves HalfAway = refl
+nothing_moves AwayFromZero = refl
 
 pub size_one : (w : Way) (a : ℕ) → whole_size w a 1 ≡ a
 size_one w a =
@@ -130,13 +132,13 @@ module _ (f : Format) (w : Bool → Way) where
   whole_mono x y h = whole-Le x y (le→Le x y h)
 
 pub floor_mono : (f : Format) (x y : Float) → T (le x y) → T (le (floor_of f x) (floor_of f y))
-floor_mono f x y h = whole_mono f (ways toward away) x y h
+floor_mono f x y h = whole_mono f (ways TowardZero AwayFromZero) x y h
 
 pub ceil_mono : (f : Format) (x y : Float) → T (le x y) → T (le (ceil_of f x) (ceil_of f y))
-ceil_mono f x y h = whole_mono f (ways away toward) x y h
+ceil_mono f x y h = whole_mono f (ways AwayFromZero TowardZero) x y h
 
 pub round_of_mono : (f : Format) (x y : Float) → T (le x y) → T (le (round_of f x) (round_of f y))
-round_of_mono f x y h = whole_mono f (ways half half) x y h
+round_of_mono f x y h = whole_mono f (ways HalfAway HalfAway) x y h
 
 -- ---- the value: a format that holds x holds every whole number that x goes to
 size_small : (w : Way) (m d : ℕ) → 0 < d → whole_size w m d ≤ m
@@ -156,56 +158,56 @@ whole_same f w (fin s m e) t k h v =
     value_unique f (whole_of f w (fin s m e)) (fin s m e) s (whole_size (w s) (m * up e) (down e)) 1 (zero-lt-suc 0) (whole_fits f w (fin s m e)) h (whole_value f w s m e h)
     (refl, v.1 ∙ ap (λ (z : ℕ). z * down e) (sym (size_same (w s) (m * up e) (down e) k 1 (down_pos e) (zero-lt-suc 0) v.1 ∙ size_one (w s) k)))
 
-pub floor_value : (f : Format) (s : Bool) (m : ℕ) (e : ℤ) → T (fits f (fin s m e)) → HasValue (floor_of f (fin s m e)) s (whole_size (ways toward away s) (m * up e) (down e)) 1
-floor_value f s m e h = whole_value f (ways toward away) s m e h
+pub floor_value : (f : Format) (s : Bool) (m : ℕ) (e : ℤ) → T (fits f (fin s m e)) → HasValue (floor_of f (fin s m e)) s (whole_size (ways TowardZero AwayFromZero s) (m * up e) (down e)) 1
+floor_value f s m e h = whole_value f (ways TowardZero AwayFromZero) s m e h
 
 -- ---- what toward zero and away from zero mean
-toward_le : (a c : ℕ) → whole_size toward a c * c ≤ a
+toward_le : (a c : ℕ) → whole_size TowardZero a c * c ≤ a
 toward_le a c = le_trans (le_of_eq (ap (λ (z : ℕ). z * c) (add-zero (a / c)))) (div-mul-le_self a c)
 
-away_ge : (a c : ℕ) → 0 < c → a ≤ whole_size away a c * c
+away_ge : (a c : ℕ) → 0 < c → a ≤ whole_size AwayFromZero a c * c
 away_ge a c C = go (nat_le 1 (a % c)) (nleb→lt 1 (a % c))
   where
     go : (b : Bool) → (T (not b) → a % c < 1) → a ≤ (a / c + one_if b) * c
     go true n = let x = div-add-mod' a c in let y = mod-lt a C in omega arith
     go false n = let x = div-add-mod' a c in let y = n tt in omega arith
 
-toward_greatest : (a c k : ℕ) → 0 < c → k * c ≤ a → k ≤ whole_size toward a c
-toward_greatest a c k C h = le_trans (le_of_eq (sym (size_one toward k))) (size_mono toward k 1 a c (zero-lt-suc 0) C (omega arith))
+toward_greatest : (a c k : ℕ) → 0 < c → k * c ≤ a → k ≤ whole_size TowardZero a c
+toward_greatest a c k C h = le_trans (le_of_eq (sym (size_one TowardZero k))) (size_mono TowardZero k 1 a c (zero-lt-suc 0) C (omega arith))
 
-away_least : (a c k : ℕ) → 0 < c → a ≤ k * c → whole_size away a c ≤ k
-away_least a c k C h = le_trans (size_mono away a c k 1 C (zero-lt-suc 0) (omega arith)) (le_of_eq (size_one away k))
+away_least : (a c k : ℕ) → 0 < c → a ≤ k * c → whole_size AwayFromZero a c ≤ k
+away_least a c k C h = le_trans (size_mono AwayFromZero a c k 1 C (zero-lt-suc 0) (omega arith)) (le_of_eq (size_one AwayFromZero k))
 
 -- ---- the floor is at most x, and the ceiling at least
-floor_cross : (s : Bool) (a c : ℕ) → 0 < c → Cross s (whole_size (ways toward away s) a c) 1 s a c
+floor_cross : (s : Bool) (a c : ℕ) → 0 < c → Cross s (whole_size (ways TowardZero AwayFromZero s) a c) 1 s a c
 floor_cross false a c C = let h = toward_le a c in omega arith
 floor_cross true a c C = let h = away_ge a c C in omega arith
 
 pub floor_le : (f : Format) (x : Float) → T (fits f x) → IsNum x → T (le (floor_of f x) x)
 floor_le f nan h p = absurd p
-floor_le f (inf s) h p = rw (whole_inf f (ways toward away) s) (le_refl (inf s) tt)
+floor_le f (inf s) h p = rw (whole_inf f (ways TowardZero AwayFromZero) s) (le_refl (inf s) tt)
 floor_le f (fin s m e) h p =
-    le_of_values (floor_of f (fin s m e)) (fin s m e) s (whole_size (ways toward away s) (m * up e) (down e)) 1 s (m * up e) (down e) (zero-lt-suc 0) (down_pos e)
+    le_of_values (floor_of f (fin s m e)) (fin s m e) s (whole_size (ways TowardZero AwayFromZero s) (m * up e) (down e)) 1 s (m * up e) (down e) (zero-lt-suc 0) (down_pos e)
     (floor_value f s m e h) (refl, refl) (floor_cross s (m * up e) (down e) (down_pos e))
 
-ceil_cross : (s : Bool) (a c : ℕ) → 0 < c → Cross s a c s (whole_size (ways away toward s) a c) 1
+ceil_cross : (s : Bool) (a c : ℕ) → 0 < c → Cross s a c s (whole_size (ways AwayFromZero TowardZero s) a c) 1
 ceil_cross false a c C = let h = away_ge a c C in omega arith
 ceil_cross true a c C = let h = toward_le a c in omega arith
 
 pub ceil_ge : (f : Format) (x : Float) → T (fits f x) → IsNum x → T (le x (ceil_of f x))
 ceil_ge f nan h p = absurd p
-ceil_ge f (inf s) h p = rw (whole_inf f (ways away toward) s) (le_refl (inf s) tt)
+ceil_ge f (inf s) h p = rw (whole_inf f (ways AwayFromZero TowardZero) s) (le_refl (inf s) tt)
 ceil_ge f (fin s m e) h p =
-    le_of_values (fin s m e) (ceil_of f (fin s m e)) s (m * up e) (down e) s (whole_size (ways away toward s) (m * up e) (down e)) 1 (down_pos e) (zero-lt-suc 0)
-    (refl, refl) (whole_value f (ways away toward) s m e h) (ceil_cross s (m * up e) (down e) (down_pos e))
+    le_of_values (fin s m e) (ceil_of f (fin s m e)) s (m * up e) (down e) s (whole_size (ways AwayFromZero TowardZero s) (m * up e) (down e)) 1 (down_pos e) (zero-lt-suc 0)
+    (refl, refl) (whole_value f (ways AwayFromZero TowardZero) s m e h) (ceil_cross s (m * up e) (down e) (down_pos e))
 
 -- ---- and no whole number between the two is missed: y is the whole number k, or -k where t is true. It need not fit the format.
-greatest_cross : (t : Bool) (k : ℕ) (s : Bool) (a c : ℕ) → 0 < c → Cross t k 1 s a c → Cross t k 1 s (whole_size (ways toward away s) a c) 1
+greatest_cross : (t : Bool) (k : ℕ) (s : Bool) (a c : ℕ) → 0 < c → Cross t k 1 s a c → Cross t k 1 s (whole_size (ways TowardZero AwayFromZero s) a c) 1
 greatest_cross false k false a c C h = let g = toward_greatest a c k C (omega arith) in omega arith
 greatest_cross false k true a c C h =
     let K : k ≡ 0 = zero_of k c a 1 C (omega arith) in
     let A : a ≡ 0 = zero_of a 1 k c (zero-lt-suc 0) (omega arith) in
-    rw (A, K) (let z = size_zero away c C in omega arith)
+    rw (A, K) (let z = size_zero AwayFromZero c C in omega arith)
 greatest_cross true k false a c C h = omega arith
 greatest_cross true k true a c C h = let g = away_least a c k C (omega arith) in omega arith
 
@@ -213,21 +215,21 @@ pub floor_greatest : (f : Format) (x y : Float) (t : Bool) (k : ℕ) → T (fits
 floor_greatest f x nan t k h v l = absurd v
 floor_greatest f x (inf u) t k h v l = absurd v
 floor_greatest f nan (fin u n d) t k h v l = absurd (le→Le (fin u n d) nan l)
-floor_greatest f (inf s) (fin u n d) t k h v l = rw (whole_inf f (ways toward away) s) l
+floor_greatest f (inf s) (fin u n d) t k h v l = rw (whole_inf f (ways TowardZero AwayFromZero) s) l
 floor_greatest f (fin s m e) (fin u n d) t k h v l =
-    le_of_values (fin u n d) (floor_of f (fin s m e)) t k 1 s (whole_size (ways toward away s) (m * up e) (down e)) 1 (zero-lt-suc 0) (zero-lt-suc 0) v (floor_value f s m e h)
+    le_of_values (fin u n d) (floor_of f (fin s m e)) t k 1 s (whole_size (ways TowardZero AwayFromZero s) (m * up e) (down e)) 1 (zero-lt-suc 0) (zero-lt-suc 0) v (floor_value f s m e h)
     (greatest_cross t k s (m * up e) (down e) (down_pos e) (cross_trans t k 1 u (n * up d) (down d) s (m * up e) (down e) (down_pos d) (same_value t k u (n * up d) (down d) v.0 v.1) (le→Le (fin u n d) (fin s m e) l)))
   where
     same_value : (t : Bool) (k : ℕ) (u : Bool) (b d : ℕ) → u ≡ t → b * 1 ≡ k * d → Cross t k 1 u b d
     same_value t k u b d i j = rw i (same_le t k 1 b d (sym j))
 
 -- ---- nor one between x and its ceiling
-least_cross : (s : Bool) (a c : ℕ) (t : Bool) (k : ℕ) → 0 < c → Cross s a c t k 1 → Cross s (whole_size (ways away toward s) a c) 1 t k 1
+least_cross : (s : Bool) (a c : ℕ) (t : Bool) (k : ℕ) → 0 < c → Cross s a c t k 1 → Cross s (whole_size (ways AwayFromZero TowardZero s) a c) 1 t k 1
 least_cross false a c false k C h = let g = away_least a c k C (omega arith) in omega arith
 least_cross false a c true k C h =
     let A : a ≡ 0 = zero_of a 1 k c (zero-lt-suc 0) (omega arith) in
     let K : k ≡ 0 = zero_of k c a 1 C (omega arith) in
-    rw (A, K) (let z = size_zero away c C in omega arith)
+    rw (A, K) (let z = size_zero AwayFromZero c C in omega arith)
 least_cross true a c false k C h = omega arith
 least_cross true a c true k C h = let g = toward_greatest a c k C (omega arith) in omega arith
 
@@ -235,9 +237,9 @@ pub ceil_least : (f : Format) (x y : Float) (t : Bool) (k : ℕ) → T (fits f x
 ceil_least f x nan t k h v l = absurd v
 ceil_least f x (inf u) t k h v l = absurd v
 ceil_least f nan (fin u n d) t k h v l = absurd (le→Le nan (fin u n d) l)
-ceil_least f (inf s) (fin u n d) t k h v l = rw (whole_inf f (ways away toward) s) l
+ceil_least f (inf s) (fin u n d) t k h v l = rw (whole_inf f (ways AwayFromZero TowardZero) s) l
 ceil_least f (fin s m e) (fin u n d) t k h v l =
-    le_of_values (ceil_of f (fin s m e)) (fin u n d) s (whole_size (ways away toward s) (m * up e) (down e)) 1 t k 1 (zero-lt-suc 0) (zero-lt-suc 0) (whole_value f (ways away toward) s m e h) v
+    le_of_values (ceil_of f (fin s m e)) (fin u n d) s (whole_size (ways AwayFromZero TowardZero s) (m * up e) (down e)) 1 t k 1 (zero-lt-suc 0) (zero-lt-suc 0) (whole_value f (ways AwayFromZero TowardZero) s m e h) v
     (least_cross s (m * up e) (down e) t k (down_pos e) (cross_trans s (m * up e) (down e) u (n * up d) (down d) t k 1 (down_pos d) (le→Le (fin s m e) (fin u n d) l) (same_value t k u (n * up d) (down d) v.0 v.1)))
   where
     same_value : (t : Bool) (k : ℕ) (u : Bool) (b d : ℕ) → u ≡ t → b * 1 ≡ k * d → Cross u b d t k 1
@@ -245,13 +247,13 @@ ceil_least f (fin s m e) (fin u n d) t k h v l =
 
 -- ---- the cast cuts a fraction off, so a floor before it changes nothing
 pub cast_floor : (w : ℕ) (f : Format) (x : Float) → T (fits f x) → to_unsigned w (floor_of f x) ≡ to_unsigned w x
-cast_floor w f nan h = ap (to_unsigned w) (whole_nan f (ways toward away))
-cast_floor w f (inf s) h = ap (to_unsigned w) (whole_inf f (ways toward away) s)
+cast_floor w f nan h = ap (to_unsigned w) (whole_nan f (ways TowardZero AwayFromZero))
+cast_floor w f (inf s) h = ap (to_unsigned w) (whole_inf f (ways TowardZero AwayFromZero) s)
 cast_floor w f (fin true m e) h =
-    cast_minus w (floor_of f (fin true m e)) (whole_size away (m * up e) (down e)) 1 (floor_value f true m e h) ∙ sym (cast_minus w (fin true m e) (m * up e) (down e) (refl, refl))
+    cast_minus w (floor_of f (fin true m e)) (whole_size AwayFromZero (m * up e) (down e)) 1 (floor_value f true m e h) ∙ sym (cast_minus w (fin true m e) (m * up e) (down e) (refl, refl))
 cast_floor w f (fin false m e) h =
-    cast_value w (floor_of f (fin false m e)) (whole_size toward (m * up e) (down e)) 1 (zero-lt-suc 0) (floor_value f false m e h)
-    ∙ ap (λ (z : ℕ). min z (2 ^ w - 1)) (div-one (whole_size toward (m * up e) (down e)) ∙ add-zero (m * up e / down e))
+    cast_value w (floor_of f (fin false m e)) (whole_size TowardZero (m * up e) (down e)) 1 (zero-lt-suc 0) (floor_value f false m e h)
+    ∙ ap (λ (z : ℕ). min z (2 ^ w - 1)) (div-one (whole_size TowardZero (m * up e) (down e)) ∙ add-zero (m * up e / down e))
     ∙ sym (cast_value w (fin false m e) (m * up e) (down e) (down_pos e) (refl, refl))
 
 -- ---- worked cases: the floors of 1.5, -1.5, 0.5, -0.5, -0 and 6

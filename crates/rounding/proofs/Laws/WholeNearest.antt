@@ -10,7 +10,8 @@ use Rattle.std.specs.Float.Ieee.Fits.{down_pos}
 use Rattle.std.specs.Float.Ieee.Exact.{HasValue}
 use Rattle.std.specs.Float.Ieee.Positive.{num, den}
 use Rattle.std.specs.Float.Ieee.Scale.{finite}
-use Rattle.rounding.specs.Whole.{half, one_if, ways, round_of}
+use Rattle.rounding.specs.declared.whole.Way.TheVariants.{HalfAway}
+use Rattle.rounding.specs.Whole.{one_if, ways, round_of}
 use Rattle.rounding.proofs.Laws.Whole.{whole_size, whole_value}
 
 -- how far ±a and ±b lie apart
@@ -76,7 +77,7 @@ up_near a c q r k e l h = record {
     go true y n = let m : k * c ≤ q * c = mul-le-mul_right c (y tt) in omega arith
     go false y n = let m : suc q * c ≤ k * c = mul-le-mul_right c (n tt) in omega arith
 
-half_near : (a c k : ℕ) → 0 < c → NearerSize a c (whole_size half a c) k
+half_near : (a c k : ℕ) → 0 < c → NearerSize a c (whole_size HalfAway a c) k
 half_near a c k C = go (nat_le c (2 * (a % c))) (leb→le c (2 * (a % c))) (nleb→lt c (2 * (a % c)))
   where
     go : (b : Bool) → (T b → c ≤ 2 * (a % c)) → (T (not b) → 2 * (a % c) < c) → NearerSize a c (a / c + one_if b) k
@@ -162,12 +163,12 @@ nearer_of s m e (fin g j i) (fin u n d) t K k v w h =
         let y = ap (λ (z : ℕ). z * D) b in
         omega arith
 
-round_value : (f : Format) (s : Bool) (m : ℕ) (e : ℤ) → T (fits f (fin s m e)) → HasValue (round_of f (fin s m e)) s (whole_size half (m * up e) (down e)) 1
-round_value f false m e h = whole_value f (ways half half) false m e h
-round_value f true m e h = whole_value f (ways half half) true m e h
+round_value : (f : Format) (s : Bool) (m : ℕ) (e : ℤ) → T (fits f (fin s m e)) → HasValue (round_of f (fin s m e)) s (whole_size HalfAway (m * up e) (down e)) 1
+round_value f false m e h = whole_value f (ways HalfAway HalfAway) false m e h
+round_value f true m e h = whole_value f (ways HalfAway HalfAway) true m e h
 
 pub round_of_nearest : (f : Format) (x y : Float) (t : Bool) (k : ℕ) → T (fits f x) → T (finite x) → HasValue y t k 1 → Nearer x (round_of f x) y
 round_of_nearest f nan y t k h p v = absurd p
 round_of_nearest f (inf s) y t k h p v = absurd p
 round_of_nearest f (fin s m e) y t k h p v =
-    nearer_of s m e (round_of f (fin s m e)) y t (whole_size half (m * up e) (down e)) k (round_value f s m e h) v (half_near (m * up e) (down e) k (down_pos e))
+    nearer_of s m e (round_of f (fin s m e)) y t (whole_size HalfAway (m * up e) (down e)) k (round_value f s m e h) v (half_near (m * up e) (down e) k (down_pos e))

@@ -136,3 +136,10 @@ least_le f (suc n) = go (f 0) (least (λ k. f (suc k)) n) (least_le (λ k. f (su
     go : (b : Bool) (k : ℕ) → k ≤ n → cond b 0 (suc k) ≤ suc n
     go true k h = omega arith
     go false k h = omega arith
+
+-- the first that a test holds of, as a scan finds it: of none before, and of it; or of none at all
+pub least_found : (f : ℕ → Bool) (n k : ℕ) → any f k ≡ false → k < n → f k ≡ true → k ≡ least f n
+least_found f n k e h t = least_at f n k h (λ j l. any_none f j k l e) t
+
+pub least_past : (f : ℕ → Bool) (n : ℕ) → any f n ≡ false → n ≡ least f n
+least_past f n e = least_none f n (λ j l. any_none f j n l e)

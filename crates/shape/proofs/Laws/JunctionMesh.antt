@@ -1,5 +1,5 @@
 -- Laws about the triangles of a junction: how many there are, and how they are put one after another. Assumes nothing.
-use Rattle.std.specs.Prelude.{◌≡◌, ℕ, zero, suc, ◌+◌, ◌-◌, ◌*◌, ◌/◌, ◌<◌, ◌≤◌, Bool, true, false, cond, List, [], ◌++◌, length, slice_index, Float}
+use Rattle.std.specs.Prelude.{◌≡◌, ℕ, zero, suc, ◌+◌, ◌-◌, ◌*◌, ◌/◌, ◌<◌, ◌≤◌, Bool, true, false, cond, List, [], ◌++◌, length, slice_index, Float, Result, Ok, Err}
 use Rattle.std.proofs.Math.Path.{refl, ap, subst}
 use Rattle.std.proofs.Common.{sym, ◌∙◌, append-nil, mul-le-mul, add-one, lt-ltb, le-ltb}
 use Rattle.std.proofs.Math.Decide.{dec_lt}
@@ -21,14 +21,11 @@ use Rattle.shape.specs.Gather.{gather}
 use Rattle.shape.specs.Lists.{point_at, longer, uneven, Mesh, mesh_lists}
 use Rattle.shape.specs.MeshMemory.{lengths_of, room_fault, leaves_mesh}
 use Rattle.shape.specs.Elevation.{grid_long, grid_ragged}
-use Rattle.shape.specs.JunctionMesh.{1d, 64d, longest_of, parts_of, face_of, corner_coords, face_normals, ear_cut, lattice, cell_of, row_of, split_of, ear_mesh, ears_mesh, sum_of, ear_vertices, vertex_count, ground_vertices, ground_normals, spacing_of, Ground, lifter, mesh_vertices, mesh_normals, mesh_indices, ground_lengths, ground_mesh, ground_limits, ground_ragged, ground_input, ground_result, ground_answer, read_ground}
+use Rattle.shape.specs.JunctionMesh.{1d, 64d, longest_of, parts_of, face_of, corner_coords, face_normals, ear_cut, lattice, cell_of, row_of, split_of, ear_mesh, ears_mesh, sum_of, ear_vertices, vertex_count, ground_vertices, ground_normals, spacing_of, Ground, lifter, mesh_vertices, mesh_normals, mesh_indices, ground_lengths, ground_mesh, ground_limits, ground_ragged, ground_input, ground_result, ground_answer}
 use Rattle.shape.specs.Memory.{Put}
-use Rattle.shape.specs.Refusal.{fine, found, refuse, or_else, Answer, taken, refused, judge, number_of, place_of}
+use Rattle.shape.specs.Refusal.{fine, found, refuse, or_else, Answer, taken, refused, told, judge, number_of, place_of}
 use Rattle.shape.specs.declared.refusal.Refusal.{Refusal}
-use Rattle.shape.specs.declared.refusal.Check.{Check}
-use Rattle.shape.specs.declared.refusal.Check.TheVariants.{Fine, Faulty}
 use Rattle.shape.specs.declared.memory.Lengths.{Lengths}
-use Rattle.shape.specs.declared.junction.JunctionAnswer.TheVariants.{Made, Refused}
 use Rattle.shape.specs.Ears.{up_to, ears_of}
 use Rattle.shape.proofs.Laws.Ears.{up_to_length}
 use Rattle.shape.proofs.Laws.Memory.{put_none, put_then, put_turn}
@@ -225,21 +222,21 @@ module _ (g : Ground) where
 
   module _ (before : Mesh) where
     -- what the check of so many vertices tells
-    module _ (k : Check) (l : Lengths) (m : ℕ) (em : m ≡ many_of) (el : l ≡ ground_lengths m) (ek : found k ≡ room_fault l (lengths_of before)) where
-      told : found k ≡ room_fault (ground_lengths many_of) (lengths_of before)
-      told = ek ∙ ap (λ (x : Lengths). room_fault x (lengths_of before)) (el ∙ ap (λ (x : ℕ). ground_lengths x) em)
+    module _ (k : Result Unit Refusal) (l : Lengths) (m : ℕ) (em : m ≡ many_of) (el : l ≡ ground_lengths m) (ek : found k ≡ room_fault l (lengths_of before)) where
+      room_told : found k ≡ room_fault (ground_lengths many_of) (lengths_of before)
+      room_told = ek ∙ ap (λ (x : Lengths). room_fault x (lengths_of before)) (el ∙ ap (λ (x : ℕ). ground_lengths x) em)
 
-      pub ground_refused : {r : Refusal} → k ≡ Faulty r → refused (number_of r) (place_of r) ≡ ground_result g before
+      pub ground_refused : {r : Refusal} → k ≡ Err r → refused (number_of r) (place_of r) ≡ ground_result g before
       unfolding ground_result judge found
-      ground_refused h = rw (← ground_lengths_lem, ← told, h)
+      ground_refused h = rw (← ground_lengths_lem, ← room_told, h)
 
-      pub ground_taken : k ≡ Fine → taken many_of ≡ ground_result g before
+      pub ground_taken : k ≡ Ok tt → taken many_of ≡ ground_result g before
       unfolding ground_result judge found
-      ground_taken h = rw (← ground_lengths_lem, ← told, h, many_is)
+      ground_taken h = rw (← ground_lengths_lem, ← room_told, h, many_is)
 
-      pub ground_fits : k ≡ Fine → Fits (ground_lengths many_of) (lengths_of before)
+      pub ground_fits : k ≡ Ok tt → Fits (ground_lengths many_of) (lengths_of before)
       unfolding found
-      ground_fits h = room_fits (ground_lengths many_of) (lengths_of before) (sym told ∙ ap found h)
+      ground_fits h = room_fits (ground_lengths many_of) (lengths_of before) (sym room_told ∙ ap found h)
 
   -- all outputs as a call that is taken leaves them
   pub ground_left : (v v' n n' : List Float) (i i' : List ℕ) {a : Answer ℕ} {r s : ℕ} → taken many_of ≡ a
@@ -247,8 +244,8 @@ module _ (g : Ground) where
       → Put v v' 0 (ears_mesh corner_coords (lifter g) (spacing_of g.grid) g.ring (ears_of g.ring)) r
       → Put n n' 0 (ears_mesh face_normals (lifter g) (spacing_of g.grid) g.ring (ears_of g.ring)) s
       → Put i i' 0 (up_to many_of) many_of
-      → (read_ground (Made many_of) ≡ a) × (mesh_lists v' n' i' [] ≡ leaves_mesh a (ground_mesh g) (mesh_lists v n i []))
-  unfolding read_ground ground_mesh mesh_vertices mesh_normals mesh_indices ground_vertices ground_normals
+      → (told (Ok many_of) ≡ a) × (mesh_lists v' n' i' [] ≡ leaves_mesh a (ground_mesh g) (mesh_lists v n i []))
+  unfolding told ground_mesh mesh_vertices mesh_normals mesh_indices ground_vertices ground_normals
   ground_left v v' n n' i i' t fits pv pn pi =
       let pj : Put i i' 0 (up_to (length (mesh_vertices g) / 3)) many_of = rw many_is pi in
       let f : Fits (lengths_of (ground_mesh g)) (lengths_of (mesh_lists v n i [])) = subst (λ (l : Lengths). Fits l (lengths_of (mesh_lists v n i []))) ground_lengths_lem fits in
@@ -256,19 +253,19 @@ module _ (g : Ground) where
 
   -- and as a refusal does
   pub ground_stays : (before : Mesh) {a : Answer ℕ} (r : Refusal) → refused (number_of r) (place_of r) ≡ a
-      → (read_ground (Refused r) ≡ a) × (before ≡ leaves_mesh a (ground_mesh g) before)
-  unfolding read_ground
+      → (told (Err r) ≡ a) × (before ≡ leaves_mesh a (ground_mesh g) before)
+  unfolding told
   ground_stays before r t = (t, mesh_stays (ground_mesh g) before t)
 
   -- the answer, by what the check of the input told
-  module _ (before : Mesh) {k : Check} (told : found k ≡ ground_input g) where
-    pub ground_turned_back : {r : Refusal} → k ≡ Faulty r → refused (number_of r) (place_of r) ≡ ground_answer g before
+  module _ (before : Mesh) {k : Result Unit Refusal} (input_told : found k ≡ ground_input g) where
+    pub ground_turned_back : {r : Refusal} → k ≡ Err r → refused (number_of r) (place_of r) ≡ ground_answer g before
     unfolding ground_answer judge found
-    ground_turned_back h = rw (← told, h)
+    ground_turned_back h = rw (← input_told, h)
 
-    pub ground_goes_on : k ≡ Fine → ground_result g before ≡ ground_answer g before
+    pub ground_goes_on : k ≡ Ok tt → ground_result g before ≡ ground_answer g before
     unfolding ground_answer judge found
-    ground_goes_on h = rw (← told, h)
+    ground_goes_on h = rw (← input_told, h)
 
   -- ---- the refusals and the answer, written out
 

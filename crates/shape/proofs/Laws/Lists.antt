@@ -1,6 +1,7 @@
 -- What sound runs are, the part of a list that a run is, and a mesh's faults as one chain. Assumes nothing.
 use Rattle.std.specs.Prelude.{◌≡◌, ℕ, zero, suc, ◌+◌, ◌-◌, ◌*◌, ◌/◌, ◌<◌, ◌≤◌, min, false, ◌||◌, ltb, List, [], ◌∷◌, length, get_or, take, drop, ◌≢◌, nat_lt, refl}
-use Rattle.std.proofs.Common.{sym, ◌∙◌, sub-one, arith, ltb-false, lt-ltb, le-ltb, length-drop, drop_of_length-le, take_all}
+use Rattle.std.proofs.Common.{sym, ◌∙◌, mul-suc, mul-le-mul_left, sub-one, arith, ltb-false, lt-ltb, le-ltb, length-drop, drop_of_length-le, take_all}
+use Rattle.std.proofs.Math.Nat.{mul-div-le}
 use Rattle.std.proofs.Math.Decide.{dec_lt}
 use Rattle.std.proofs.Math.ListN.{get_or-eq_default}
 use Rattle.std.proofs.Math.Seq.{take-nil}
@@ -33,6 +34,13 @@ sound w a ws n m k h e =
 pub short : (w a : ℕ) (ws : List ℕ) (limit m k : ℕ) → k < m → any (run_long w a ws limit) m ≡ false → end_of w a ws k - start_of w a ws k ≤ limit
 unfolding run_long
 short w a ws limit m k h e = ltb-false limit (end_of w a ws k - start_of w a ws k) (any_none (run_long w a ws limit) k m h e)
+
+-- a word of a whole record is within the list
+pub word_inside : (w k j n : ℕ) → k < n / w → j < w → w * k + j < n
+word_inside w k j n h l =
+    let e : w * suc k ≡ w * k + w = mul-suc w k in
+    let m : w * suc k ≤ w * (n / w) = mul-le-mul_left w h in
+    omega (arith, e, m, mul-div-le n w)
 
 -- the end of the run before, as the code reaches it
 pub last_end_lem : (w a : ℕ) (ws : List ℕ) (k : ℕ) → (k ≢ 0) → end_of w a ws (k - 1) ≡ last_end w a ws k

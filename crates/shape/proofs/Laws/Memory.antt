@@ -1,8 +1,8 @@
 -- Runs of stores: one after another, and read back from the front. Assumes nothing.
-use Rattle.std.specs.Prelude.{◌≡◌, ℕ, suc, ◌+◌, ◌≤◌, List, [], ◌∷◌, ◌++◌, length, take, drop, set, refl}
-use Rattle.std.proofs.Common.{sym, ap, ◌∙◌, add-zero, zero-add, add-suc, suc-add, arith, length-append}
+use Rattle.std.specs.Prelude.{◌≡◌, ℕ, suc, ◌+◌, ◌<◌, ◌≤◌, List, [], ◌∷◌, ◌++◌, length, take, drop, set, get_or, refl}
+use Rattle.std.proofs.Common.{sym, ap, ◌∙◌, add-zero, add-one, zero-add, add-suc, suc-add, arith, length-append}
 use Rattle.std.proofs.lemmas.List.Edits.{sets, sets-eq}
-use Rattle.std.proofs.Math.Seq.{length-sets, take-append_seam}
+use Rattle.std.proofs.Math.Seq.{length-sets, take-append_seam, take-suc}
 use Rattle.shape.specs.Gather.{gather}
 use Rattle.shape.specs.Memory.{Put}
 use Rattle.shape.proofs.Laws.Gather.{gather_next}
@@ -34,6 +34,16 @@ module _ {A : Type 0} where
 
   pub put_length : {m₀ m xs : List A} {at q : ℕ} → Put m₀ m at xs q → length m ≡ length m₀
   put_length {m₀} {m} {xs} {at} p = ap length p.memory ∙ length-sets m₀ at xs
+
+  pub put_one : (m : List A) (at : ℕ) (a : A) → Put m (set m at a) at (a ∷ []) (at + 1)
+  put_one m at a = record { memory = refl; ends = refl }
+
+  -- one element more of a list that is put
+  pub put_element : (xs m₀ m : List A) (at i : ℕ) (d : A) → i < length xs → Put m₀ m at (take i xs) (at + i)
+      → Put m₀ (set m (at + i) (get_or xs i d)) at (take (i + 1) xs) (at + (i + 1))
+  put_element xs m₀ m at i d h p =
+      let e : at + (i + 1) ≡ at + i + 1 = omega arith in
+      rw (e, add-one i, take-suc xs i d h) (put_then p (put_one m (at + i) (get_or xs i d)))
 
   -- one turn of a loop that puts what f gathers
   pub put_turn : (f : ℕ → List A) (i : ℕ) {m₀ m m' : List A} {at q q' : ℕ} → Put m₀ m at (gather f i) q → Put m m' q (f i) q'

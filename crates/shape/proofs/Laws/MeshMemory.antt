@@ -1,13 +1,11 @@
 -- Laws about a mesh as result and lent memory: what a fault that is not there tells, what is left, and that the one fault of room is what strips and junctions
 -- had each for itself. Assumes nothing.
-use Rattle.std.specs.Prelude.{◌≡◌, ℕ, ◌*◌, ◌≤◌, Bool, true, false, List, length, nat_lt, refl, Float}
+use Rattle.std.specs.Prelude.{◌≡◌, ℕ, ◌*◌, ◌≤◌, Bool, true, false, List, length, nat_lt, refl, Float, Result, Ok, Err}
 use Rattle.std.proofs.Common.{◌∙◌, arith}
 use Rattle.std.proofs.Math.Decide.{dec_lt}
 use borrow.Author.Tests.{ltb-false, lt-ltb, le-ltb}
 use Rattle.shape.specs.declared.memory.Lengths.{Lengths}
 use Rattle.shape.specs.declared.refusal.Refusal.{Refusal}
-use Rattle.shape.specs.declared.refusal.Check.{Check}
-use Rattle.shape.specs.declared.refusal.Check.TheVariants.{Fine, Faulty}
 use Rattle.shape.specs.Refusal.{Fault, fine, fault, found, refuse, or_else, Answer, taken, refused, leaves}
 use Rattle.shape.specs.Memory.{Put}
 use Rattle.shape.specs.Lists.{Mesh, mesh_lists}
@@ -27,12 +25,12 @@ both_fine fine b e = (refl, e)
 both_fine (fault n p) b e = absurd (let z : ◌≡◌ {A = ℕ} 0 1 = cc in omega arith)
 
 -- a check in two parts: the first finds something, or nothing
-module _ (k : Check) (a b : Fault) (e : found k ≡ a) where
-  pub fault_first : {r : Refusal} → k ≡ Faulty r → found (Faulty r) ≡ or_else a b
+module _ (k : Result Unit Refusal) (a b : Fault) (e : found k ≡ a) where
+  pub fault_first : {r : Refusal} → k ≡ Err r → found (Err r) ≡ or_else a b
   unfolding found or_else
   fault_first h = rw (← e, h)
 
-  pub fault_then : (l : Check) → k ≡ Fine → found l ≡ b → found l ≡ or_else a b
+  pub fault_then : (l : Result Unit Refusal) → k ≡ Ok tt → found l ≡ b → found l ≡ or_else a b
   unfolding found or_else
   fault_then l h x = rw (← e, h) x
 

@@ -1,10 +1,8 @@
 -- The first of several faults: a chain of tests before another fault, and what it means that there is none. Assumes nothing.
-use Rattle.std.specs.Prelude.{◌≡◌, ℕ, Bool, true, false, ◌||◌, ◌≢◌, refl}
+use Rattle.std.specs.Prelude.{◌≡◌, ℕ, Bool, true, false, ◌||◌, ◌≢◌, refl, Result, Ok, Err}
 use Rattle.std.proofs.Common.{sym, ap, ◌∙◌, arith}
 use Rattle.shape.specs.declared.refusal.Refusal.{Refusal}
-use Rattle.shape.specs.declared.refusal.Check.{Check}
-use Rattle.shape.specs.declared.refusal.Check.TheVariants.{Fine, Faulty}
-use Rattle.shape.specs.Refusal.{Fault, fine, fault, found, refuse, or_else}
+use Rattle.shape.specs.Refusal.{Fault, fine, fault, found, refuse, or_else, Answer, told, judge}
 
 pub never : {n p : ℕ} → fault n p ≢ fine
 never e = let z : ◌≡◌ {A = ℕ} 0 1 = cc in omega arith
@@ -37,15 +35,47 @@ else_passed fine g e = (refl, e)
 else_passed (fault n p) g e = absurd (never e)
 
 -- what a check has told: nothing, or the first of two faults
-pub none_told : {k : Check} {f : Fault} → found k ≡ f → k ≡ Fine → f ≡ fine
+pub none_told : {k : Result Unit Refusal} {f : Fault} → found k ≡ f → k ≡ Ok tt → f ≡ fine
 unfolding found
 none_told e h = sym e ∙ ap found h
 
-module _ {k : Check} {f : Fault} (g : Fault) (e : found k ≡ f) where
-  pub else_faulty : {r : Refusal} → k ≡ Faulty r → found (Faulty r) ≡ or_else f g
+module _ {k : Result Unit Refusal} {f : Fault} (g : Fault) (e : found k ≡ f) where
+  pub else_faulty : {r : Refusal} → k ≡ Err r → found (Err r) ≡ or_else f g
   unfolding found or_else
   else_faulty h = rw (← e, h)
 
-  pub else_fine : {a : Fault} → k ≡ Fine → a ≡ g → a ≡ or_else f g
+  pub else_fine : {a : Fault} → k ≡ Ok tt → a ≡ g → a ≡ or_else f g
   unfolding found or_else
   else_fine h t = rw (← e, h) t
+
+-- ---- a chain of tests, each passed on by `?`
+
+-- a test that turns the call back, whatever comes after it
+pub stops : (b : Bool) (n p : ℕ) (r : Refusal) (after : Fault) → found (Err r) ≡ refuse b n p fine → found (Err r) ≡ refuse b n p after
+unfolding found refuse
+stops true n p r after e = e
+stops false n p r after e = absurd (never e)
+
+-- a test that lets it pass: what comes after it tells
+pub goes_on : (b : Bool) (n p : ℕ) {f after : Fault} → found (Ok tt) ≡ refuse b n p fine → f ≡ after → f ≡ refuse b n p after
+unfolding found refuse
+goes_on true n p e h = absurd (never (sym e))
+goes_on false n p e h = h
+
+-- a check that turns the call back, and one that lets it pass, before another
+pub stops_first : (r : Refusal) {f : Fault} (g : Fault) → found (Err r) ≡ f → found (Err r) ≡ or_else f g
+unfolding found or_else
+stops_first r g e = rw (← e)
+
+pub goes_then : {f g a : Fault} → found (Ok tt) ≡ f → a ≡ g → a ≡ or_else f g
+unfolding found or_else
+goes_then e h = rw (← e) h
+
+-- a call that a check turns back answers so, and else as it goes on
+pub told_back : {A : Type 0} (r : Refusal) {f : Fault} (a : Answer A) → found (Err r) ≡ f → told {A = A} (Err r) ≡ judge f a
+unfolding found told judge
+told_back r a e = rw (← e)
+
+pub told_on : {A : Type 0} {f : Fault} {a b : Answer A} → found (Ok tt) ≡ f → b ≡ a → b ≡ judge f a
+unfolding found judge
+told_on e h = rw (← e) h

@@ -9,8 +9,7 @@ use Rattle.shape.specs.Gather.{gather, least}
 use Rattle.shape.specs.Lists.{word_of}
 use Rattle.shape.specs.Refusal.{Fault, fine, fault, refuse, Answer, taken, judge}
 use Rattle.shape.proofs.Laws.Gather.{gather_even, gather_at, or_left}
-use Rattle.surface.specs.declared.file.Form.{Form}
-use Rattle.surface.specs.declared.file.Form.TheVariants.{File, Held}
+use Rattle.surface.specs.File.{Form, File, Held}
 use Rattle.surface.specs.File.{word_at, decode, four_bytes, encode, kind_of, by_kind, spares, spare, spare_used, bad_record, bad_at, refuse_first, surface_fault, parts, held_record, file_record, held_fault, file_fault, held_of, file_of, held_at, file_at, words_of, bytes_of, copy_of, read_of, write_of}
 
 -- every number of a list is below n, as the bytes and words of a slice are

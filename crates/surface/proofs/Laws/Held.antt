@@ -13,9 +13,9 @@ use Rattle.shape.specs.Refusal.{fine}
 use Rattle.shape.specs.Lists.{word_of}
 use Rattle.shape.proofs.Laws.Gather.{gather_even, or_left, or_right}
 use Rattle.surface.specs.declared.held.Sizes.{Sizes}
-use Rattle.surface.specs.declared.file.Form.TheVariants.{Held}
+use Rattle.surface.specs.File.{Held}
 use Rattle.surface.specs.File.{kind_of, spare_used, bad_record, kind_before, bad_at, parts, held_record, held_fault}
-use Rattle.surface.specs.Held.{how_many, is_kind, count_kind, sizes_of, place_in, normal_in, corners_in, vertices_in, normals_in, indices_in}
+use Rattle.surface.specs.Held.{how_many, is_kind, count_kind, sizes_of, three_in, place_in, normal_in, corners_in, vertices_in, normals_in, indices_in}
 use Rattle.surface.proofs.Laws.File.{faultless, whole_held}
 use Rattle.surface.proofs.Laws.Records.{positive}
 
@@ -62,11 +62,11 @@ sized ws s e =
 
 module _ (ws : List ℕ) where
   pub vertices_length : length (vertices_in ws) ≡ 3 * count_kind ws 1
-  unfolding vertices_in place_in
+  unfolding vertices_in place_in three_in
   vertices_length = gather_even (place_in ws) 3 (λ i. refl) (count_kind ws 1)
 
   pub normals_length : length (normals_in ws) ≡ 3 * count_kind ws 1
-  unfolding normals_in normal_in
+  unfolding normals_in normal_in three_in
   normals_length = gather_even (normal_in ws) 3 (λ i. refl) (count_kind ws 1)
 
   pub indices_length : length (indices_in ws) ≡ 3 * count_kind ws 2

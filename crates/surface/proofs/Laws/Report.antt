@@ -1,7 +1,7 @@
 -- The text of a file has a bound, its mesh is always in order, and no lookup that it is made of is turned back. Assumes nothing.
 use Rattle.std.proofs.Math.Path.{◌≡◌, refl, ap, subst}
 use Rattle.std.proofs.Common.{sym, ◌∙◌, add-zero, length-append}
-use Rattle.std.specs.Prelude.{Bool, ℕ, ◌+◌, ◌*◌, ◌/◌, ◌%◌, ◌≤◌, ◌<◌, ltb, Float, drop}
+use Rattle.std.specs.Prelude.{Bool, Result, Ok, ℕ, ◌+◌, ◌*◌, ◌/◌, ◌%◌, ◌≤◌, ◌<◌, ltb, Float, drop}
 use Rattle.std.proofs.Math.Bool.{true, false}
 use mathlib.Core.List.{List, [], append-nil}
 use native.Mathlib.Omega.{arith}
@@ -11,7 +11,7 @@ use Rattle.std.proofs.Math.ListN.{length, get_or, replicate, length-replicate}
 use Rattle.std.proofs.Math.Seq.{take-append_seam}
 use Rattle.shape.specs.Gather.{gather, any}
 use Rattle.shape.specs.Lists.{longer, uneven, mesh_fault}
-use Rattle.shape.specs.Refusal.{Fault, fine, fault, refuse, Answer, taken, refused, judge, leaves}
+use Rattle.shape.specs.Refusal.{Fault, fine, fault, refuse, Answer, taken, refused, judge, leaves, told}
 use Rattle.shape.proofs.Laws.Gather.{gather_most, gather_even, gather_at}
 use Rattle.lookup.specs.Index.{candidates_of, index_words, build_of, index_room, answer_to}
 use Rattle.lookup.specs.Demand3.{BuiltFrom}
@@ -22,9 +22,8 @@ use Rattle.lookup.specs.Batch.{record_words, record_of, record_at, records_of, c
 use Rattle.lookup.proofs.Laws.Index.{hands}
 use Rattle.lookup.proofs.Laws.Limits.{judged}
 use Rattle.lookup.proofs.Laws.Demand3.{top_taken, words_fit}
-use Rattle.surface.specs.declared.file.Copied.{Copied}
-use Rattle.surface.specs.declared.file.Copied.TheVariants.{Count}
-use Rattle.surface.specs.File.{words_of, file_fault, copy_of, read_copied}
+use Rattle.shape.specs.declared.refusal.Refusal.{Refusal}
+use Rattle.surface.specs.File.{words_of, file_fault, copy_of}
 use Rattle.surface.specs.Held.{how_many, is_kind, count_kind, vertices_in, normals_in, indices_in, lane_in, question_at, point_in, points_of}
 use Rattle.surface.specs.Report.{mesh_in, index_in, given, sample_at, line_of, line_at, answered_at, lines_of, or_refused, report_of, report_answer}
 use Rattle.surface.specs.ReportSteps.{record_in, records_in}
@@ -74,8 +73,8 @@ unfolding report_answer
 report_taken bs room h = copied (report_of bs) room (omega (arith, report_fits bs))
 
 -- and what is counted lies within the room
-pub report_within : (bs : List ℕ) {r : Copied} {n : ℕ} (room : ℕ) → r ≡ Count n → read_copied r ≡ report_answer bs room → n ≤ room
-unfolding read_copied report_answer copy_of refuse judge
+pub report_within : (bs : List ℕ) {r : Result ℕ Refusal} {n : ℕ} (room : ℕ) → r ≡ Ok n → told r ≡ report_answer bs room → n ≤ room
+unfolding told report_answer copy_of refuse judge
 report_within bs {r} {n} room e g = let k = length (report_of bs) in go k (ltb room k) (ltb-false room k) (rw e at g)
   where
     go : (k : ℕ) (b : Bool) → (b ≡ false → k ≤ room) → taken n ≡ judge (refuse b 3 k fine) (taken k) → n ≤ room

@@ -1,5 +1,5 @@
 -- How long a line is, and can be. Assumes nothing.
-use Rattle.std.specs.Prelude.{◌≡◌, refl, Bool, true, false, cond, List, [], ◌∷◌, ◌++◌, ℕ, zero, suc, ◌+◌, ◌*◌, ◌/◌, ◌%◌, ◌^◌, ◌≤◌, ◌<◌, ltb, Float, length}
+use Rattle.std.specs.Prelude.{◌≡◌, refl, Bool, true, false, cond, List, [], ◌∷◌, ◌++◌, ℕ, zero, suc, ◌+◌, ◌*◌, ◌/◌, ◌%◌, ◌^◌, ◌≤◌, ◌<◌, ltb, Float, length, Option, Some, None}
 use Rattle.std.proofs.Common.{ap, arith, pow-suc, lt-ltb, le-ltb, length-append}
 use Rattle.vector.specs.declared.coords.Vector.{Vector}
 use Rattle.surface.specs.Text.{digit, digits_of, hexadecimal, normal_text, lane_text, found_line, none_line, asked_line, refused_line}
@@ -17,16 +17,16 @@ pub hex_eight : (w : ℕ) → length (hexadecimal w) ≡ 8
 unfolding hexadecimal
 hex_eight w = refl
 
-lane_few : (lane : ℕ) → length (lane_text lane) ≤ 16
+lane_few : (lane : Option ℕ) → length (lane_text lane) ≤ 16
 unfolding lane_text
-lane_few zero = omega arith
-lane_few (suc n) = omega (arith, digits_few 9 (suc n))
+lane_few None = omega arith
+lane_few (Some id) = omega (arith, digits_few 9 id)
 
 normal_few : (n : Vector) → length (normal_text n) ≤ 34
 unfolding normal_text hexadecimal
 normal_few n = omega arith
 
-pub found_few : (k : ℕ) (h : Float) (n : Vector) (t lane : ℕ) → length (found_line k h n t lane) ≤ 100
+pub found_few : (k : ℕ) (h : Float) (n : Vector) (t : ℕ) (lane : Option ℕ) → length (found_line k h n t lane) ≤ 100
 unfolding found_line hexadecimal
 found_few k h n t lane = simp length-append (omega (arith, digits_few 9 k, digits_few 9 t, normal_few n, lane_few lane))
 
@@ -67,21 +67,19 @@ decimal_more n h l =
     let b : n / 10 < 10 ^ 9 = omega arith in
     rw (digits_same 8 (n / 10) b) (last n h)
 
-pub lane_none_size : (lane : ℕ) → lane ≡ 0 → length (lane_text lane) ≡ 7
+pub lane_none_size : length (lane_text None) ≡ 7
 unfolding lane_text
-lane_none_size zero e = refl
-lane_none_size (suc n) e = absurd (omega arith)
+lane_none_size = refl
 
-pub lane_some_size : (lane : ℕ) → (lane ≡ 0 → ⊥) → length (lane_text lane) ≡ 6 + length (digits_of 9 lane)
+pub lane_some_size : (id : ℕ) → length (lane_text (Some id)) ≡ 6 + length (digits_of 9 id)
 unfolding lane_text
-lane_some_size zero e = absurd (e refl)
-lane_some_size (suc n) e = omega arith
+lane_some_size id = omega arith
 
 normal_size : (n : Vector) → length (normal_text n) ≡ 34
 unfolding normal_text hexadecimal
 normal_size n = refl
 
-pub found_size : (k : ℕ) (h : Float) (n : Vector) (t lane : ℕ) → length (found_line k h n t lane) ≡ 64 + length (digits_of 9 k) + length (digits_of 9 t) + length (lane_text lane)
+pub found_size : (k : ℕ) (h : Float) (n : Vector) (t : ℕ) (lane : Option ℕ) → length (found_line k h n t lane) ≡ 64 + length (digits_of 9 k) + length (digits_of 9 t) + length (lane_text lane)
 unfolding found_line hexadecimal
 found_size k h n t lane = simp length-append (omega (arith, normal_size n))
 

@@ -5,24 +5,24 @@ use Rattle.surface.proofs.Laws.Text.{decimal_one, decimal_more}
 use Rattle.surface.proofs.Texts.{digits_one, digits_last}
 use Rattle.surface.proofs.text.+put_decimal.Goals as goal
 
-pub put_digit-requires : goal.put_digit-requires
-put_digit-requires t c = omega (arith, decimal_one c.args.n c.if-n-lt10.true, c.requires, c.if-n-lt10.true)
+pub put-requires : goal.put-requires
+put-requires t c = omega (arith, decimal_one c.args.n c.if-n-lt10.true)
 
 pub returns-then-n-lt10 : goal.returns-then-n-lt10
-returns-then-n-lt10 t c = λ k h. rw (← (digits_one k c.args.n c.if-n-lt10.true)) c.put_digit.ensures
+returns-then-n-lt10 t c = λ k h. rw (← (digits_one k c.args.n c.if-n-lt10.true)) c.put.ensures
 
 pub put_decimal-next-requires : goal.put_decimal-next-requires
 put_decimal-next-requires t c =
-    let e = decimal_more c.args.n c.if-n-lt10.false c.requires.1 in
-    (omega (arith, c.if-n-lt10.false), (omega (arith, e, c.requires.0), omega (arith, c.requires.1)))
+    let e = decimal_more c.args.n c.if-n-lt10.false (omega arith) in
+    (omega arith, omega (arith, e))
 
-pub put_digit-requires-2 : goal.put_digit-requires-2
-put_digit-requires-2 t c =
+pub put-requires-2 : goal.put-requires-2
+put-requires-2 t c =
     let n = c.args.n in
-    let b : n / 10 < 10000000000 = omega (arith, c.requires) in
+    let b : n / 10 < 10000000000 = omega arith in
     let p = c.put_decimal-next.ensures 9 b in
-    let e = decimal_more n c.if-n-lt10.false c.requires.1 in
-    omega (arith, c.requires, e, p.ends, put_length p)
+    let e = decimal_more n c.if-n-lt10.false (omega arith) in
+    omega (arith, e, p.ends, put_length p)
 
 pub returns : goal.returns
-returns t c = digits_last _ _ _ _ _ _ c.args.n c.if-n-lt10.false c.put_decimal-next.ensures c.put_digit-2.ensures
+returns t c = digits_last _ _ _ _ _ _ c.args.n c.if-n-lt10.false c.put_decimal-next.ensures c.put-2.ensures

@@ -1,0 +1,14 @@
+-- `lookup::sampler::top` meets its contract where the index is foreign. Assumes nothing.
+use Rattle.std.proofs.Common.{◌≡◌, sym, rules, Err}
+use Rattle.shape.specs.Refusal.{found}
+use Rattle.shape.specs.Lists.{lists_of}
+use Rattle.lookup.specs.Sampler.{read_sampled}
+use Rattle.lookup.proofs.Answers.{refuses}
+use Rattle.lookup.proofs.Fronts.{foreign_is}
+use Rattle.lookup.proofs.sampler.top.Goals as goal
+
+pub returns-in_err-h : goal.returns-in_err-h
+unfolding read_sampled found
+returns-in_err-h c =
+    let h : c.from_residual-in_err-h.result ≡ Err c.in_err-h.field-0.0 = search rules in
+    rw h (refuses (lists_of c.args.mesh) _ _ _ (sym c.in_ok-top_fault.ensures) (foreign_is _ _ c.open.ensures c.in_err-h.was _ _))

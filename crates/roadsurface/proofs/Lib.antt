@@ -1,2 +1,0 @@
--- The lemmas that the proofs of the functions cite.
-pub mod Telling

@@ -1,0 +1,8 @@
+-- `shape::validate::first_faulty`: nothing is wrong with a triangle before t. Assumes nothing.
+use Rattle.std.proofs.Common.{◌≡◌, false}
+use Rattle.shape.specs.Gather.{any}
+use Rattle.shape.specs.Verdict.{faulty_at}
+use Rattle.shape.proofs.validate.first_faulty.Given as goal
+
+abbrev pub invariant-loop-t : goal.invariant-loop-t
+invariant-loop-t l = any (faulty_at l.vertices l.indices) l.t ≡ false
