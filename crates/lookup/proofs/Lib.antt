@@ -7,6 +7,7 @@ pub mod Runs
 pub mod Pairs
 pub mod Chain
 pub mod Search
+pub mod Cuts
 pub mod Batches
 pub mod Digits
 pub mod Blocks

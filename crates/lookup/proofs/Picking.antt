@@ -1,9 +1,11 @@
 -- The box around corners, and around two boxes, by comparisons that are right where the first of two is a number. Assumes nothing.
-use Rattle.std.proofs.Common.{◌≡◌, ℕ, Bool, true, false, List, sym, ap, ◌∙◌, subst, true≢false, Option, Some, None}
-use lib.Ieee.{Float, nan, inf, fin, binary32, add, lt, le, eq, ne, is_nan}
+use Rattle.std.proofs.Common.{◌≡◌, ℕ, Bool, true, false, T, List, sym, ap, ◌∙◌, subst, Option, Some, None}
+use lib.Dec.{not_T}
+use lib.Ieee.{Float, binary32, add, lt, le, ne}
 use lib.Ieee.Bits.{is_true, is_false}
 use Rattle.rounding.specs.Extremes.{first, ge, min_of, max_of}
-use Rattle.rounding.proofs.Laws.Order.{T_of, not_nan_num, num_of_same, nan_of_differs, lt_num_left, lt_num_right, lt_iff_not_le, le_of_not_lt}
+use Rattle.rounding.proofs.Choosing.{second, first_kept, lt_not_le}
+use Rattle.rounding.proofs.Laws.Order.{T_of, num_of_same, nan_of_differs, lt_num_left, lt_num_right, le_of_not_lt}
 use Rattle.rounding.specs.Numbers.{IsNum}
 use Rattle.rounding.proofs.Laws.Sums.{add_num_left, add_num_right, sub_num_left}
 use Rattle.vector.specs.declared.coords.Point.{Point}
@@ -17,28 +19,18 @@ use Rattle.lookup.specs.declared.boxes.Aabb.{Aabb}
 
 -- ---- two numbers
 
-num_is : (x : Float) → IsNum x → is_nan x ≡ false
-num_is x n = is_false (is_nan x) (not_nan_num x n)
-
-second : (rel : Float → Float → Bool) (x y : Float) → IsNum x → IsNum y → rel x y ≡ false → y ≡ first rel x y
-unfolding first
-second rel x y p q e = rw (num_is x p, num_is y q, e)
+pub differs_not : (x : Float) → ne x x ≡ true → IsNum x → ⊥
+differs_not x e n = subst IsNum (nan_of_differs x e) n
 
 stays : (rel : Float → Float → Bool) (x y : Float) → IsNum x → (IsNum y → rel x y ≡ true) → x ≡ first rel x y
-unfolding first is_nan
-stays rel x nan p h = rw (num_is x p)
-stays rel x (inf s) p h = rw (num_is x p, h tt)
-stays rel x (fin s m e) p h = rw (num_is x p, h tt)
-
-not_le : (x y : Float) → lt x y ≡ true → le y x ≡ false
-not_le x y e = is_false (le y x) ((lt_iff_not_le x y (lt_num_left x y (T_of e)) (lt_num_right x y (T_of e))).0 (T_of e))
+stays rel x y p h = first_kept rel x y (is_false (ne x x) (not_T (ne x x) (λ (t : T (ne x x)). differs_not x (is_true (ne x x) t) p))) h
 
 is_le : (x y : Float) → lt x y ≡ false → IsNum x → IsNum y → le y x ≡ true
 is_le x y e p q = is_true (le y x) (le_of_not_lt x y p q e)
 
 pub lower_moves : (x y : Float) → lt y x ≡ true → Picked min_of x y y
 unfolding min_of
-lower_moves x y e = let p = lt_num_right y x (T_of e) in let q = lt_num_left y x (T_of e) in record { is = λ _. second le x y p q (not_le y x e); num = λ _. q; back = λ _. p }
+lower_moves x y e = let p = lt_num_right y x (T_of e) in let q = lt_num_left y x (T_of e) in record { is = λ _. second le x y q (lt_not_le y x e); num = λ _. q; back = λ _. p }
 
 pub lower_stays : (x y : Float) → lt y x ≡ false → Picked min_of x y x
 unfolding min_of
@@ -46,20 +38,11 @@ lower_stays x y e = record { is = λ p. stays le x y p (λ q. is_le y x e q p); 
 
 pub upper_moves : (x y : Float) → lt x y ≡ true → Picked max_of x y y
 unfolding max_of
-upper_moves x y e = let p = lt_num_left x y (T_of e) in let q = lt_num_right x y (T_of e) in record { is = λ _. second ge x y p q (not_le x y e); num = λ _. q; back = λ _. p }
+upper_moves x y e = let p = lt_num_left x y (T_of e) in let q = lt_num_right x y (T_of e) in record { is = λ _. second ge x y q (lt_not_le x y e); num = λ _. q; back = λ _. p }
 
 pub upper_stays : (x y : Float) → lt x y ≡ false → Picked max_of x y x
 unfolding max_of
 upper_stays x y e = record { is = λ p. stays ge x y p (λ q. is_le x y e p q); num = λ p. p; back = λ p. p }
-
-pub num_of_like : (x : Float) → eq x x ≡ true → IsNum x
-unfolding eq
-num_of_like nan h = absurd (true≢false (sym h))
-num_of_like (inf s) h = tt
-num_of_like (fin s m e) h = tt
-
-pub differs_not : (x : Float) → ne x x ≡ true → IsNum x → ⊥
-differs_not x e n = subst IsNum (nan_of_differs x e) n
 
 -- ---- three
 
@@ -88,10 +71,9 @@ module _ (a b c : Point) (l₁ l₂ l₃ l₄ u₁ u₂ u₃ u₄ : Float)
   pub compares : IsNum l₂ → IsNum l₄ → ◌≡◌ {A = Aabb} (record { min_x = l₂; min_y = l₄; max_x = u₂; max_y = u₄ }) (around_of a b c)
   compares p q = leveled (three_back min_of a.x b.x c.x l₁ l₂ A B p) (three_back min_of a.y b.y c.y l₃ l₄ C D q)
 
-  pub boxed : (let s = add binary32 l₂ l₄ in ne s s ≡ false) → ◌≡◌ {A = Aabb} (record { min_x = l₂; min_y = l₄; max_x = u₂; max_y = u₄ }) (around_of a b c)
-  boxed s =
-      let n : IsNum (add binary32 l₂ l₄) = num_of_same (add binary32 l₂ l₄) s in
-      compares (add_num_left binary32 l₂ l₄ n) (add_num_right binary32 l₂ l₄ n)
+-- two whose sum is a number
+pub summed : (x y : Float) → (let s = add binary32 x y in ne s s ≡ false) → IsNum x × IsNum y
+summed x y e = let n : IsNum (add binary32 x y) = num_of_same (add binary32 x y) e in (add_num_left binary32 x y n, add_num_right binary32 x y n)
 
 -- a bound that was moved out is a number only where it was one before
 pub grown_back : (e g : Aabb) → g ≡ grown_of e → (IsNum g.min_x → IsNum e.min_x) × (IsNum g.min_y → IsNum e.min_y)

@@ -13,7 +13,7 @@ use Rattle.rounding.proofs.Laws.Sums.{add_num, add_num_left, sub_num_right, add_
 use Rattle.lookup.specs.Mesh.{corners_of}
 use Rattle.lookup.specs.Box.{grown_box, box_of}
 use Rattle.lookup.specs.Index.{block_of, blocks_of, in_cell, start, cells_of}
-use Rattle.lookup.specs.Steps.{Framed, Fits, Narrow}
+use Rattle.lookup.specs.Steps.{Framed, Fits, Narrow, Reaches, Below, UpTo}
 use Rattle.lookup.proofs.Laws.Parts.{start_le}
 use Rattle.lookup.proofs.Laws.Cells.{start_area}
 use Rattle.lookup.proofs.Laws.Frames.{inside_of}
@@ -54,16 +54,6 @@ pub record Reached (m cell : Float) (count : ℕ) (w x : Float) (most : ℕ) : T
   pub few : most < count
   pub far : (lo : Float) → T (le lo x) → IsNum (add binary32 lo w) → T (lt (inf true) w)
       → col binary32 m cell count (add binary32 lo w) ≤ most + col binary32 m cell count lo
-
--- what `reach` and `reach_of` answer for, where P is asked of the rounded width hi - lo
-abbrev pub Reaches : Float → Float → ℕ → (Float → Type 0) → ℕ → Type 0
-Reaches m cell count P r = ((lo hi : Float) → T (fits binary32 hi) → P (sub binary32 hi lo) → col binary32 m cell count hi ≤ r + col binary32 m cell count lo) × (r < count)
-
-abbrev pub Below : Float → Float → Type 0
-Below w d = T (lt d w)
-
-abbrev pub UpTo : Float → Float → Type 0
-UpTo width d = T (le d width)
 
 -- no lo that is a number lies more than `most` columns before its sum with w
 abbrev Far : Float → Float → ℕ → Float → ℕ → Type 0

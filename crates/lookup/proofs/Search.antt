@@ -1,5 +1,7 @@
 -- The first span that ends past an index, by halving: what is known between two bounds, and that it ends with the span. Assumes nothing.
-use Rattle.std.proofs.Common.{◌≡◌, ℕ, ◌+◌, ◌-◌, ◌*◌, ◌/◌, ◌<◌, ◌≤◌, List, get_or, sym, ap, ◌∙◌, zero-le, le_refl, arith}
+use Rattle.std.proofs.Common.{◌≡◌, ℕ, ◌+◌, ◌-◌, ◌*◌, ◌/◌, ◌<◌, ◌≤◌, List, get_or, sym, ap, ◌∙◌, zero-le, le_refl, arith, ltb, lt-ltb, le-ltb, Option}
+use Rattle.std.specs.Bool.{then_some}
+use Rattle.std.specs.Option.{MatchOption}
 use native.Mathlib.Decide.{dec_lt}
 use Rattle.shape.specs.Lists.{word_of, end_of}
 use Rattle.lookup.specs.Sampler.{EndsRise, past_of}
@@ -78,3 +80,27 @@ less b h e = omega arith
 pub ten : {n a b c d e f g h j k : ℕ} → n ≤ 1024 → a ≡ (n + 1) / 2 → b ≡ (a + 1) / 2 → c ≡ (b + 1) / 2 → d ≡ (c + 1) / 2 → e ≡ (d + 1) / 2 → f ≡ (e + 1) / 2
     → g ≡ (f + 1) / 2 → h ≡ (g + 1) / 2 → j ≡ (h + 1) / 2 → k ≡ (j + 1) / 2 → k ≤ 1
 ten l a b c d e f g h j k = less 1 (less 2 (less 4 (less 8 (less 16 (less 32 (less 64 (less 128 (less 256 (less 512 l a) b) c) d) e) f) g) h) j) k
+
+none : {p q : ℕ} → q ≡ (p + 1) / 2 → q < 1 → p < 1
+none h e = omega arith
+
+-- and none only of none
+pub ten_none : {n a b c d e f g h j k : ℕ} → a ≡ (n + 1) / 2 → b ≡ (a + 1) / 2 → c ≡ (b + 1) / 2 → d ≡ (c + 1) / 2 → e ≡ (d + 1) / 2 → f ≡ (e + 1) / 2
+    → g ≡ (f + 1) / 2 → h ≡ (g + 1) / 2 → j ≡ (h + 1) / 2 → k ≡ (j + 1) / 2 → k < 1 → n < 1
+ten_none a b c d e f g h j k l = none a (none b (none c (none d (none e (none f (none g (none h (none j (none k l)))))))))
+
+-- a place that may be past the last, as a place or none
+pub place_or_none : {k n p : ℕ} {r : Option ℕ} → r ≡ then_some (ltb k n) k → k ≡ p → k ≤ n → MatchOption r (p ≡ n) (λ k. (k < n) × (k ≡ p))
+place_or_none {k} {n} {p} s e l = rw s (go (dec_lt k n))
+  where
+    go : Dec (k < n) → MatchOption (then_some (ltb k n) k) (p ≡ n) (λ k. (k < n) × (k ≡ p))
+    go (yes h) = rw (lt-ltb k n h) (h, e)
+    go (no h) = rw (le-ltb k n (omega arith)) (omega arith)
+
+-- a place moved on by one at most
+pub moved_within : (low end i r : ℕ) {n : ℕ} → (end ≤ i → r ≡ low + 1) × (i < end → r ≡ low) → low + 1 ≤ n → r ≤ n
+moved_within low end i r {n} q l = go (dec_lt i end)
+  where
+    go : Dec (i < end) → r ≤ n
+    go (yes h) = omega (arith, q.1 h)
+    go (no h) = omega (arith, q.0 (omega arith))

@@ -1,28 +1,27 @@
 -- The steps by which `highest` goes through a run, sixteen triangles at a time, and what `locate` says of it. Assumes nothing.
-use Rattle.std.proofs.Common.{◌≡◌, ℕ, zero, suc, ◌+◌, ◌-◌, ◌*◌, ◌<◌, ◌≤◌, Bool, true, false, ◌&&◌, ◌⊎◌, List, length, get_or, take, drop, set, sym, refl, ap, ◌∙◌, subst, ⊎_elim, le_of_suc-le-suc, eq-or-lt_of_le, add-one, arith, length-drop, length-set, length-take-le, get_or-drop, get_or-set_other, get_or-take, get_or-set_same, Option, Some, None, Result, Ok, Err}
+use Rattle.std.proofs.Common.{◌≡◌, ℕ, suc, ◌+◌, ◌-◌, ◌*◌, ◌<◌, ◌≤◌, Bool, true, false, ◌&&◌, List, length, get_or, take, drop, set, sym, refl, ap, ◌∙◌, subst, add-one, arith, length-drop, length-set, length-take-le, get_or-drop, get_or-set_other, get_or-take, get_or-set_same, Option, Some, None, Result, Ok, Err, zero, cond, ◌++◌}
 use native.Mathlib.Decide.{dec_lt}
-use lib.Ieee.{Float, nan, lt}
+use lib.Ieee.{Float, nan, lt, le}
 use Rattle.rounding.proofs.Laws.Order.{T_of}
 use Rattle.vector.specs.Single.{0f}
 use Rattle.vector.specs.declared.coords.Point.{Point}
-use Rattle.shape.specs.Refusal.{fine, Answer, taken, refused, number_of, place_of}
+use Rattle.shape.specs.Refusal.{fine, Answer, refused, number_of, place_of}
 use Rattle.shape.specs.declared.refusal.Refusal.{Refusal}
 use Rattle.lookup.specs.declared.mesh.Weights.{Weights}
-use Rattle.lookup.specs.declared.mesh.Peak.{Peak}
+use Rattle.lookup.specs.declared.mesh.WeighedTriangle.{WeighedTriangle}
 use Rattle.lookup.specs.Mesh.{present, corners_of, triangles}
-use Rattle.lookup.specs.Cover.{slack, covers, weights_of, weights_at, det_of, over_a, weight_a, weight_b, weights_inside}
-use Rattle.lookup.specs.Plain.{scan_of, entry_of}
-use Rattle.lookup.specs.Consult.{entry_fault, word_at, Candidates, nowhere}
+use Rattle.lookup.specs.Cover.{slack, covers, height_of, weights_of, weights_at, det_of, over_a, weight_a, weight_b, weights_inside}
+use Rattle.lookup.specs.Plain.{higher_of, scan_of, entry_of}
+use Rattle.lookup.specs.Consult.{entry_fault, word_at, Candidates}
 use Rattle.lookup.specs.Steps.{Runs, Started}
-use Rattle.lookup.specs.Sixteen.{ground_at, Over, Grounded, CornersUnder, There, AllUnder, Exactly, Gathered, Low, AllLow, Weighed, Weighs, PeakWeighed, HitOf}
-use Rattle.lookup.proofs.Laws.Heads.{entry_none, entry_step}
+use Rattle.lookup.specs.Sixteen.{ground_at, Over, Grounded, CornersUnder, There, AllUnder, Exactly, Gathered, Low, AllLow, Weighed, Weighs, PeakWeighed, HitOf, best_of, scan_on}
+use Rattle.lookup.proofs.Laws.Index.{entries_fine}
+use Rattle.lookup.proofs.Laws.Fold.{fold_on, fold_same}
 use Rattle.lookup.proofs.Laws.Plain.{present_below}
+use Rattle.lookup.proofs.Laws.Scan.{upto}
 use Rattle.lookup.proofs.Laws.Parts.{both}
+use Rattle.lookup.proofs.Cuts.{cut_get}
 use Rattle.lookup.proofs.Turns.{there, missing, weights_are}
-
--- what holds of each number below n, and of n, holds of each below suc n
-upto : (P : ℕ → Type 0) (n : ℕ) → ((j : ℕ) → j < n → P j) → P n → (j : ℕ) → j < suc n → P j
-upto P n f p j h = ⊎_elim (λ (z : j ≡ n). subst P (sym z) p) (λ (z : j < n). f j z) (eq-or-lt_of_le (le_of_suc-le-suc h))
 
 true_not_false : true ≡ false → ⊥
 true_not_false e = T_of (sym e)
@@ -87,34 +86,33 @@ module _ (vs : List Float) (is : List ℕ) where
       record { there = w.0; first = subst (Over _) w.1 f; second = subst (Over _) w.2 g; third = subst (Over _) w.3 h }
 
   -- a place more is filled, or passed over as its triangle is missing
-  pub gather_step : (run : List ℕ) (from k : ℕ) {a b c a' b' c' : List Float} {p q r : Point} {t : ℕ} {whole : Bool}
-      → Gathered vs is run from k a b c whole
-      → t ≡ entry_of run (from + k)
-      → corners_of vs is t ≡ Some (p, q, r)
+  pub gather_step : (run : List ℕ) (k : ℕ) {a b c a' b' c' : List Float} {p q r : Point} {whole : Bool}
+      → Gathered vs is run k a b c whole
+      → corners_of vs is (entry_of run k) ≡ Some (p, q, r)
       → Grounded a a' k p
       → Grounded b b' k q
       → Grounded c c' k r
-      → Gathered vs is run from (k + 1) a' b' c' whole
-  gather_step run from k {a} {b} {c} {a'} {b'} {c'} {t = t} old same e f g h =
+      → Gathered vs is run (k + 1) a' b' c' whole
+  gather_step run k {a} {b} {c} {a'} {b'} {c'} old e f g h =
       record {
         held =
-            subst (λ (n : ℕ). AllUnder vs is run from n a' b' c') (sym (add-one k))
-            (upto (λ j. There vs is run (from + j) → CornersUnder vs is (entry_of run (from + j)) (ground_at a' j) (ground_at b' j) (ground_at c' j)) k
+            subst (λ (n : ℕ). AllUnder vs is run n a' b' c') (sym (add-one k))
+            (upto (λ j. There vs is run j → CornersUnder vs is (entry_of run j) (ground_at a' j) (ground_at b' j) (ground_at c' j)) k
             (λ j l p. rw (f.kept j l, g.kept j l, h.kept j l) (old.held j l p))
-            (λ _. subst (λ (t : ℕ). CornersUnder vs is t (ground_at a' k) (ground_at b' k) (ground_at c' k)) same (fetched _ e f.put g.put h.put)));
-        flag = exactly_more (λ j. There vs is run (from + j)) k old.flag (subst (λ (t : ℕ). present vs is t ≡ true) same (there vs is t e).0);
+            (λ _. fetched _ e f.put g.put h.put));
+        flag = exactly_more (There vs is run) k old.flag (there vs is (entry_of run k) e).0;
       }
 
-  pub gather_pass : (run : List ℕ) (from k : ℕ) {a b c : List Float} {t : ℕ} {whole : Bool}
-      → Gathered vs is run from k a b c whole → t ≡ entry_of run (from + k) → corners_of vs is t ≡ None → Gathered vs is run from (k + 1) a b c false
-  gather_pass run from k {a} {b} {c} {t = t} old same e =
-      let none : There vs is run (from + k) → ⊥ = λ p. true_not_false (sym p ∙ subst (λ (t : ℕ). present vs is t ≡ false) same (missing vs is t e)) in
+  pub gather_pass : (run : List ℕ) (k : ℕ) {a b c : List Float} {whole : Bool}
+      → Gathered vs is run k a b c whole → corners_of vs is (entry_of run k) ≡ None → Gathered vs is run (k + 1) a b c false
+  gather_pass run k {a} {b} {c} old e =
+      let none : There vs is run k → ⊥ = λ p. true_not_false (sym p ∙ missing vs is (entry_of run k) e) in
       record {
         held =
-            subst (λ (n : ℕ). AllUnder vs is run from n a b c) (sym (add-one k))
-            (upto (λ j. There vs is run (from + j) → CornersUnder vs is (entry_of run (from + j)) (ground_at a j) (ground_at b j) (ground_at c j)) k old.held
+            subst (λ (n : ℕ). AllUnder vs is run n a b c) (sym (add-one k))
+            (upto (λ j. There vs is run j → CornersUnder vs is (entry_of run j) (ground_at a j) (ground_at b j) (ground_at c j)) k old.held
             (λ p. absurd (none p)));
-        flag = exactly_not (λ j. There vs is run (from + j)) k none;
+        flag = exactly_not (There vs is run) k none;
       }
 
 -- ---- least weights
@@ -132,62 +130,85 @@ missing_out : (vs : List Float) (is : List ℕ) (t : ℕ) (x y : Float) → pres
 unfolding covers
 missing_out vs is t x y e = rw e
 
-pub weighed : (vs : List Float) (is : List ℕ) (x y : Float) (run : List ℕ) (from n m : ℕ) (a b c low : List Float) (whole : Bool)
-    → n ≤ m → Gathered vs is run from n a b c whole → AllLow a b c x y low m → Weighed vs is x y run from n low whole
-weighed vs is x y run from n m a b c low whole le g lows =
-    record { passing = λ k l w. go k l (present vs is (entry_of run (from + k))) refl (lows k (omega arith) w); flag = g.flag }
+pub weighed : (vs : List Float) (is : List ℕ) (x y : Float) (run : List ℕ) (n m : ℕ) (a b c low : List Float) (whole : Bool)
+    → n ≤ m → Gathered vs is run n a b c whole → AllLow a b c x y low m → Weighed vs is x y run n low whole
+weighed vs is x y run n m a b c low whole le g lows =
+    record { passing = λ k l w. go k l (present vs is (entry_of run k)) refl (lows k (omega arith) w); flag = g.flag }
   where
-    go : (k : ℕ) → k < n → (p : Bool) → present vs is (entry_of run (from + k)) ≡ p → weights_inside (weights_of (ground_at a k) (ground_at b k) (ground_at c k) x y) ≡ false
-        → covers vs is (entry_of run (from + k)) x y ≡ false
+    go : (k : ℕ) → k < n → (p : Bool) → present vs is (entry_of run k) ≡ p → weights_inside (weights_of (ground_at a k) (ground_at b k) (ground_at c k) x y) ≡ false
+        → covers vs is (entry_of run k) x y ≡ false
     go k l true e o = held_out vs is x y (g.held k l e) o
-    go k l false e o = missing_out vs is (entry_of run (from + k)) x y e
+    go k l false e o = missing_out vs is (entry_of run k) x y e
 
 -- ---- the weights of the best
 
-module _ (vs : List Float) (is : List ℕ) (x y : Float) where
-  pub weighed_none : {p : Peak} → p.best ≡ None → PeakWeighed vs is x y p
-  weighed_none e h t a = absurd (let z : ◌≡◌ {A = ℕ} 0 1 = cc in omega arith)
+at_same : {a b : Float × WeighedTriangle} → Some a ≡ Some b → a.1 ≡ b.1
+at_same {a} {b} e = let k : a ≡ b = cc in ap (λ (p : Float × WeighedTriangle). p.1) k
 
-  pub weighed_next : {p r : Peak} {h : Float} {t : ℕ} {w : Weights} → PeakWeighed vs is x y p → Weighs vs is x y t w
-      → (r ≡ p) ⊎ ((r.best ≡ Some (h, t)) × (r.weights ≡ w)) → PeakWeighed vs is x y r
-  weighed_next {p} {r} {h} {t} {w} old new =
-      ⊎_elim (λ (e : r ≡ p). subst (PeakWeighed vs is x y) (sym e) old) (λ (e : (r.best ≡ Some (h, t)) × (r.weights ≡ w)) g u a.
-      let z : t ≡ u = at_same (sym e.0 ∙ a) in
-      subst (λ (u : ℕ). Weighs vs is x y u r.weights) z (subst (Weighs vs is x y t) (sym e.1) new))
+-- which is the best goes by heights and numbers alone
+pub best_higher : (p : Option (Float × WeighedTriangle)) (h : Float) (w : WeighedTriangle) → best_of (higher_of p h w) ≡ higher_of (best_of p) h w.triangle
+unfolding best_of higher_of
+best_higher None h w = refl
+best_higher (Some (g, k)) h w = go (le h g)
+  where
+    go : (b : Bool) → best_of (cond b (Some (g, k)) (Some (h, w))) ≡ cond b (Some (g, k.triangle)) (Some (h, w.triangle))
+    go true = refl
+    go false = refl
+
+module _ (vs : List Float) (is : List ℕ) (x y : Float) where
+  pub weighed_none : PeakWeighed vs is x y None
+  weighed_none h w e = absurd (let z : ◌≡◌ {A = ℕ} 0 1 = cc in omega arith)
+
+  pub weighed_next : (p : Option (Float × WeighedTriangle)) (h : Float) (w : WeighedTriangle) → PeakWeighed vs is x y p → Weighs vs is x y w.triangle w.weights → PeakWeighed vs is x y (higher_of p h w)
+  unfolding higher_of
+  weighed_next None h w old new = λ g v e. subst (λ (v : WeighedTriangle). Weighs vs is x y v.triangle v.weights) (at_same e) new
+  weighed_next (Some (g, k)) h w old new = go (le h g)
     where
-      at_same : {a b : Float × ℕ} → Some a ≡ Some b → a.1 ≡ b.1
-      at_same {a} {b} e = let k : a ≡ b = cc in ap (λ (p : Float × ℕ). p.1) k
+      go : (b : Bool) → PeakWeighed vs is x y (cond b (Some (g, k)) (Some (h, w)))
+      go true = old
+      go false = λ g v e. subst (λ (v : WeighedTriangle). Weighs vs is x y v.triangle v.weights) (at_same e) new
 
   pub weighs : {t : ℕ} {a b c : Point} {w : Weights} → corners_of vs is t ≡ Some (a, b, c) → w ≡ weights_of a b c x y → Weighs vs is x y t w
   weighs {t} f e = record { there = (there vs is t f).0; same = e ∙ weights_are vs is t x y f }
 
-pub pass_next : (vs : List Float) (is : List ℕ) (x y : Float) (best : Option (Float × ℕ)) (seq : ℕ → ℕ) (i j : ℕ)
-    → best ≡ scan_of vs is x y seq i → covers vs is (seq i) x y ≡ false → j ≡ suc i → best ≡ scan_of vs is x y seq j
-unfolding scan_of
-pass_next vs is x y best seq i j e o n = rw (n, o) e
+pub pass_next : (vs : List Float) (is : List ℕ) (x y : Float) (start best : Option (Float × ℕ)) (run : List ℕ) (i : ℕ)
+    → best ≡ scan_on vs is x y start run i → covers vs is (entry_of run i) x y ≡ false → best ≡ scan_on vs is x y start run (i + 1)
+unfolding scan_on
+pass_next vs is x y start best run i e o = rw (add-one, o) e
 
 -- ---- the run
 
-pub hit_step : (vs : List Float) (is : List ℕ) (x y : Float) (run : List ℕ) (i n : ℕ) {best next : Option (Float × ℕ)} {whole part all : Bool} {low : List Float}
-    → HitOf vs is x y run i best whole
-    → Weighed vs is x y run i n low part
-    → all ≡ (whole && part)
-    → next ≡ scan_of vs is x y (entry_of run) (i + n)
-    → HitOf vs is x y run (i + n) next all
-hit_step vs is x y run i n h w e s = record { found = s; flag = exactly_both (There vs is run) i n h.flag w.flag e }
+module _ (vs : List Float) (is : List ℕ) (x y : Float) (run part rest : List ℕ) (i : ℕ) (cut : part ++ rest ≡ drop i run) where
+  part_scan : {best : Option (Float × ℕ)} → best ≡ scan_of vs is x y (entry_of run) i → scan_on vs is x y best part (length part) ≡ scan_of vs is x y (entry_of run) (i + length part)
+  unfolding scan_on scan_of
+  part_scan e =
+      let c = λ (t : ℕ). covers vs is t x y in
+      let f = λ (best : Option (Float × ℕ)) (t : ℕ). higher_of best (height_of vs is t x y) t in
+      rw e (fold_same c f _ _ _ (length part) (λ k l. cut_get run part rest i k 0 cut l) ∙ sym (fold_on c f None (entry_of run) i (length part)))
+
+  pub hit_step : {best next : Option (Float × ℕ)} {whole all flag : Bool} {low : List Float}
+      → HitOf vs is x y run i best whole
+      → Weighed vs is x y part (length part) low flag
+      → all ≡ (whole && flag)
+      → next ≡ scan_on vs is x y best part (length part)
+      → HitOf vs is x y run (i + length part) next all
+  hit_step {flag = flag} h w e s =
+      let same : (k : ℕ) → k < length part → entry_of part k ≡ entry_of run (i + k) = λ k l. cut_get run part rest i k 0 cut l in
+      let there : Exactly (λ k. There vs is run (i + k)) (length part) flag =
+      record {
+        all = λ b k l. subst (λ (t : ℕ). present vs is t ≡ true) (same k l) (w.flag.all b k l);
+        told = λ f. w.flag.told (λ k l. subst (λ (t : ℕ). present vs is t ≡ true) (sym (same k l)) (f k l));
+      } in
+      record { found = s ∙ part_scan h.found; flag = exactly_both (There vs is run) i (length part) h.flag there e }
 
 -- ---- the entries of a run of triangles that are there are in order
-
-entries_sound : (ws : List ℕ) (count from n : ℕ) → ((k : ℕ) → k < n → word_at ws (from + k) < count) → entry_fault ws count from n ≡ fine
-entries_sound ws count from zero h = entry_none ws count from
-entries_sound ws count from (suc n) h = entry_step ws count from n (entries_sound ws count from n (λ k l. h k (omega arith))) (h n (omega arith))
 
 pub run_sound : (vs : List Float) (is ws : List ℕ) (a e : ℕ) (run : List ℕ) → run ≡ take (e - a) (drop a ws) → e ≤ length ws
     → ((k : ℕ) → k < length run → present vs is (entry_of run k) ≡ true) → entry_fault ws (triangles is) a (e - a) ≡ fine
 run_sound vs is ws a e run same room all =
     let d : length (drop a ws) ≡ length ws - a = length-drop a ws in
     let n : length run ≡ e - a = ap length same ∙ length-take-le (e - a) (drop a ws) (omega (arith, d)) in
-    entries_sound ws (triangles is) a (e - a)
+    entries_fine ws (triangles is) a (e - a)
     (λ k l.
     let q : entry_of run k ≡ word_at ws (a + k) = ap (λ (o : List ℕ). get_or o k 0) same ∙ get_or-take (e - a) (drop a ws) k 0 l ∙ get_or-drop a ws k 0 in
     subst (λ (z : ℕ). z < triangles is) q (present_below vs is (entry_of run k) (all k (subst (λ (z : ℕ). k < z) (sym n) l))))
@@ -198,10 +219,6 @@ module _ (ws : List ℕ) (count : ℕ) {answer : Answer Candidates} {d : Result 
   pub refused_is : {r : Refusal} → d ≡ Err r → refused (number_of r) (place_of r) ≡ answer
   unfolding Started
   refused_is e = subst (Started ws count answer) e s
-
-  pub nowhere_is : d ≡ (Ok None) → taken nowhere ≡ answer
-  unfolding Started
-  nowhere_is e = subst (Started ws count answer) e s
 
   pub run_is : {a e : ℕ} → d ≡ Ok (Some (a, e)) → Runs ws count answer a e
   unfolding Started

@@ -1,5 +1,6 @@
 -- One triangle more is tallied: whatever it is, and where the extent so far has no NaN. Assumes nothing.
-use Rattle.std.proofs.Common.{◌≡◌, ℕ, zero, suc, ◌+◌, ◌<◌, ◌≤◌, Bool, true, false, cond, not, T, ltb, List, sym, refl, ap, ◌∙◌, subst, true≢false, add-zero, add-one, arith, ltb→lt, nltb→le, Option, Some, None}
+use Rattle.std.proofs.Common.{◌≡◌, ℕ, zero, suc, ◌+◌, ◌<◌, ◌≤◌, Bool, true, false, cond, T, List, sym, refl, ap, ◌∙◌, subst, true≢false, add-zero, add-one, arith, below_more, Option, Some, None}
+use Rattle.std.specs.Bool.{then_some}
 use lib.Ieee.{Float, of_bits, ne, le, is_nan}
 use Rattle.rounding.specs.Extremes.{first, ge, min_of, max_of}
 use Rattle.rounding.proofs.Laws.Order.{le_trans, num_of_same}
@@ -11,8 +12,10 @@ use Rattle.vector.specs.declared.coords.Point.{Point}
 use Rattle.lookup.specs.Mesh.{triangles, corners_of}
 use Rattle.lookup.specs.Box.{around_of, grown_of, grown_box, box_of, merge_of}
 use Rattle.lookup.specs.Frame.{join_of, one_of, boxes_of, extent_of}
-use Rattle.lookup.specs.Steps.{Picked, Sound, Tallied, Fits, Narrow}
+use Rattle.lookup.specs.Steps.{Picked, Sound, Tallied, Fits, Narrow, Tells}
 use Rattle.lookup.specs.declared.boxes.Aabb.{Aabb}
+use Rattle.lookup.specs.declared.build_fast.Sides.{Sides}
+use Rattle.lookup.specs.declared.build_fast.Tally.{Tally}
 use Rattle.lookup.proofs.Picking.{box_inj, none_no_box, box_quick, grown_back}
 
 pub one_le : (b : (Option Aabb)) → one_of b ≤ 1
@@ -59,13 +62,6 @@ zero_num : IsNum 0f
 unfolding of_bits
 zero_num = tt
 
-one_more : (P : ℕ → Type 0) (t : ℕ) → ((k : ℕ) → k < t → P k) → P t → (k : ℕ) → k < t + 1 → P k
-one_more P t h p k l = go (ltb k t) (ltb→lt k t) (nltb→le k t)
-  where
-    go : (b : Bool) → (T b → k < t) → (T (not b) → t ≤ k) → P k
-    go true m n = h k (m tt)
-    go false m n = let g : t ≤ k = n tt in let e : t ≡ k = omega arith in subst P e p
-
 -- the larger of two numbers is at least as large as each
 larger : (x y r : Float) → IsNum x → IsNum y → Picked max_of x y r → T (le x r) × T (le y r)
 larger x y r p q h = rw (h.is p) ((max_picks x y).left p, (max_picks x y).right q)
@@ -84,7 +80,7 @@ module _ (vs : List Float) (is : List ℕ) (t : ℕ) (narrow : Bool) (width heig
   sized_passed f = record {
     num_w = h.num_w;
     num_h = h.num_h;
-    fit = λ n. one_more (λ (k : ℕ). (o : Aabb) → box_of vs is k ≡ Some o → Fits o width height) t (h.fit n) (λ o j. none_no_box o (sym (box_missing vs is t f) ∙ j));
+    fit = λ n. below_more (λ (k : ℕ). (o : Aabb) → box_of vs is k ≡ Some o → Fits o width height) t (h.fit n) (λ o j. none_no_box o (sym (box_missing vs is t f) ∙ j));
   }
 
   -- one whose sides are NaN
@@ -105,7 +101,7 @@ module _ (vs : List Float) (is : List ℕ) (t : ℕ) (narrow : Bool) (width heig
         num_w = u.num h.num_w;
         num_h = v.num h.num_h;
         fit =
-            λ b. one_more (λ (k : ℕ). (o : Aabb) → box_of vs is k ≡ Some o → Fits o r s) t
+            λ b. below_more (λ (k : ℕ). (o : Aabb) → box_of vs is k ≡ Some o → Fits o r s) t
             (λ k l o q. let d = h.fit b k l o q in record { wide = le_trans _ width r d.wide lw.0; high = le_trans _ height s d.high lh.0 })
             (λ o q. subst (λ (o : Aabb). Fits o r s) (sym (box_inj g o (sym y ∙ q))) (record { wide = lw.1; high = lh.1 }));
       }
@@ -224,9 +220,29 @@ module _
           sized = sized_next vs is t narrow width height h.sized g y r s n u v;
         }
 
-pub measured_all : (vs : List Float) (is : List ℕ) (start : Aabb) (t count : ℕ) (extent : Aabb) (narrow : Bool) (width height : Float) → Measured vs is start t count extent narrow width height
-    → t ≡ triangles is → 0 < triangles is
-    → (narrow ≡ true → Tallied vs is (triangles is) count (Some extent)) × (narrow ≡ true → Narrow vs is (triangles is) width height)
-measured_all vs is start t count extent narrow width height h e z =
+-- ---- what is told
+
+-- what a flag lets through
+let_by : {A : Type 0} (b : Bool) {v w : A} → then_some b v ≡ Some w → (b ≡ true) × (v ≡ w)
+let_by true e = (refl, cc)
+let_by false e = cc
+
+pub sized_all : (vs : List Float) (is : List ℕ) (t count : ℕ) (extent : Option Aabb) (narrow : Bool) (width height : Float) {sides : Option Sides}
+    → Tallied vs is t count extent → Sized vs is t narrow width height → t ≡ triangles is
+    → sides ≡ then_some narrow (record { width = width; height = height })
+    → Tells vs is (triangles is) (record { count = count; extent = extent; sides = sides })
+sized_all vs is t count extent narrow width height {sides} p q e told =
+    subst (λ (n : ℕ). Tells vs is n (record { count = count; extent = extent; sides = sides })) e
+    (record {
+      tallied = p;
+      narrow = λ s i. let o = let_by narrow (sym told ∙ i) in subst (λ (s : Sides). Narrow vs is t s.width s.height) o.1 (q.fit o.0);
+    })
+
+pub measured_all : (vs : List Float) (is : List ℕ) (start : Aabb) (t count : ℕ) (extent : Aabb) (narrow : Bool) (width height : Float) {r : Option Tally}
+    → Measured vs is start t count extent narrow width height → t ≡ triangles is → 0 < triangles is
+    → r ≡ then_some narrow (record { count = count; extent = Some extent; sides = Some (record { width = width; height = height }) })
+    → (a : Tally) → r ≡ Some a → Tells vs is (triangles is) a
+measured_all vs is start t count extent narrow width height {r} h e z told a i =
+    let o = let_by narrow (sym told ∙ i) in
     let k : Measured vs is start (triangles is) count extent narrow width height = subst (λ (m : ℕ). Measured vs is start m count extent narrow width height) e h in
-    (λ n. k.tallied n z, k.sized.fit)
+    subst (Tells vs is (triangles is)) o.1 (sized_all vs is (triangles is) count (Some extent) narrow width height (k.tallied o.0 z) k.sized refl (rw o.0))

@@ -4,7 +4,8 @@ use lib.Ieee.{Float}
 use Rattle.vector.specs.declared.coords.Point.{Point}
 use Rattle.lookup.specs.Mesh.{present, corners_of, corner_of}
 use Rattle.lookup.specs.Cover.{covers, height_of, weights_of, weights_at, weights_inside, lift_of}
-use Rattle.lookup.specs.Plain.{scan_of, higher_of}
+use Rattle.lookup.specs.Plain.{higher_of, entry_of}
+use Rattle.lookup.specs.Sixteen.{scan_on}
 
 -- ---- the fetch
 
@@ -33,25 +34,25 @@ module _ (vs : List Float) (is : List ℕ) (t : ℕ) where
 
 -- ---- a turn of the scan
 
-module _ (vs : List Float) (is : List ℕ) (x y : Float) (seq : ℕ → ℕ) (i : ℕ) {t : ℕ} (same : t ≡ seq i) (best : Option (Float × ℕ)) (e : best ≡ scan_of vs is x y seq i) where
-  passed : covers vs is t x y ≡ false → best ≡ scan_of vs is x y seq (i + 1)
-  unfolding scan_of
+module _ (vs : List Float) (is : List ℕ) (x y : Float) (start : Option (Float × ℕ)) (run : List ℕ) (i : ℕ) {t : ℕ} (same : t ≡ entry_of run i) (best : Option (Float × ℕ)) (e : best ≡ scan_on vs is x y start run i) where
+  passed : covers vs is t x y ≡ false → best ≡ scan_on vs is x y start run (i + 1)
+  unfolding scan_on
   passed h = rw (add-one, ← same, h) e
 
-  taken : covers vs is t x y ≡ true → higher_of best (height_of vs is t x y) t ≡ scan_of vs is x y seq (i + 1)
-  unfolding scan_of
+  taken : covers vs is t x y ≡ true → higher_of best (height_of vs is t x y) t ≡ scan_on vs is x y start run (i + 1)
+  unfolding scan_on
   taken h = rw (add-one, ← same, h, e)
 
-  pub passed_missing : corners_of vs is t ≡ None → best ≡ scan_of vs is x y seq (i + 1)
+  pub passed_missing : corners_of vs is t ≡ None → best ≡ scan_on vs is x y start run (i + 1)
   unfolding covers
   passed_missing f = passed (rw (missing _ _ _ f))
 
   module _ {a b c : Point} (f : corners_of vs is t ≡ Some (a, b, c)) where
-    pub passed_outside : weights_inside (weights_of a b c x y) ≡ false → best ≡ scan_of vs is x y seq (i + 1)
+    pub passed_outside : weights_inside (weights_of a b c x y) ≡ false → best ≡ scan_on vs is x y start run (i + 1)
     unfolding covers
     passed_outside o = passed (rw ((there _ _ _ f).0, ← weights_are vs is t x y f, o))
 
-    pub taken_inside : weights_inside (weights_of a b c x y) ≡ true → higher_of best (lift_of (weights_of a b c x y) a.z b.z c.z) t ≡ scan_of vs is x y seq (i + 1)
+    pub taken_inside : weights_inside (weights_of a b c x y) ≡ true → higher_of best (lift_of (weights_of a b c x y) a.z b.z c.z) t ≡ scan_on vs is x y start run (i + 1)
     unfolding covers height_of
     taken_inside o =
         let k = there _ _ _ f in

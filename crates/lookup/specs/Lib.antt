@@ -11,6 +11,8 @@ pub mod Column
 pub mod Index
 pub mod Consult
 pub mod Steps
+pub mod Opened
+pub mod Laid
 pub mod Sampler
 pub mod Batch
 pub mod Record

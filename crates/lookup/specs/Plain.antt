@@ -12,8 +12,8 @@ use Rattle.lookup.specs.Cover.{covers, height_of, normal_of}
 
 -- ---- the scan of `Mesh::highest`
 
--- the best so far after triangle t of height h, which replaces it unless h is at most its height
-unfoldable pub higher_of : Option (Float × ℕ) → Float → ℕ → Option (Float × ℕ)
+-- the best so far after triangle t of height h, which replaces it unless h is at most its height. What is kept of a triangle is its number, or more
+unfoldable pub higher_of : {A : Type 0} → Option (Float × A) → Float → A → Option (Float × A)
 higher_of None h t = Some (h, t)
 higher_of (Some (g, k)) h t = cond (le h g) (Some (g, k)) (Some (h, t))
 

@@ -7,9 +7,9 @@ use Rattle.vector.specs.Single.{0f}
 use Rattle.vector.specs.declared.coords.Point.{Point}
 use Rattle.lookup.specs.Mesh.{present, corner_of}
 use Rattle.lookup.specs.declared.mesh.Weights.{Weights}
-use Rattle.lookup.specs.declared.mesh.Peak.{Peak}
-use Rattle.lookup.specs.Cover.{slack, weights_of, weights_at, weights_inside, covers}
-use Rattle.lookup.specs.Plain.{scan_of, entry_of}
+use Rattle.lookup.specs.declared.mesh.WeighedTriangle.{WeighedTriangle}
+use Rattle.lookup.specs.Cover.{slack, weights_of, weights_at, weights_inside, covers, height_of}
+use Rattle.lookup.specs.Plain.{scan_by, scan_of, entry_of}
 
 -- ---- corners on the ground
 
@@ -38,22 +38,22 @@ pub record CornersUnder (vs : List Float) (is : List ℕ) (t : ℕ) (p q r : Poi
 abbrev pub There : List Float → List ℕ → List ℕ → ℕ → Type 0
 There vs is run i = present vs is (entry_of run i) ≡ true
 
--- of n triangles of a run from a place on, each that is there is held; the place of one that is missing holds anything
-abbrev pub AllUnder : List Float → List ℕ → List ℕ → ℕ → ℕ → List Float → List Float → List Float → Type 0
-AllUnder vs is run from n a b c = (k : ℕ) → k < n → There vs is run (from + k) → CornersUnder vs is (entry_of run (from + k)) (ground_at a k) (ground_at b k) (ground_at c k)
+-- of the first n triangles of a run, each that is there is held; the place of one that is missing holds anything
+abbrev pub AllUnder : List Float → List ℕ → List ℕ → ℕ → List Float → List Float → List Float → Type 0
+AllUnder vs is run n a b c = (k : ℕ) → k < n → There vs is run k → CornersUnder vs is (entry_of run k) (ground_at a k) (ground_at b k) (ground_at c k)
 
 -- b is true exactly where each of the first n has it
 pub record Exactly (P : ℕ → Type 0) (n : ℕ) (b : Bool) : Type 0 where
   pub all : b ≡ true → (k : ℕ) → k < n → P k
   pub told : ((k : ℕ) → k < n → P k) → b ≡ true
 
--- the n triangles of a run from a place on are all there, or not
-abbrev pub Whole : List Float → List ℕ → List ℕ → ℕ → ℕ → Bool → Type 0
-Whole vs is run from n whole = Exactly (λ k. There vs is run (from + k)) n whole
+-- the first n triangles of a run are all there, or not
+abbrev pub Whole : List Float → List ℕ → List ℕ → ℕ → Bool → Type 0
+Whole vs is run n whole = Exactly (There vs is run) n whole
 
-pub record Gathered (vs : List Float) (is run : List ℕ) (from n : ℕ) (a b c : List Float) (whole : Bool) : Type 0 where
-  pub held : AllUnder vs is run from n a b c
-  pub flag : Whole vs is run from n whole
+pub record Gathered (vs : List Float) (is run : List ℕ) (n : ℕ) (a b c : List Float) (whole : Bool) : Type 0 where
+  pub held : AllUnder vs is run n a b c
+  pub flag : Whole vs is run n whole
 
 -- ---- least weights
 
@@ -66,26 +66,36 @@ abbrev pub AllLow : List Float → List Float → List Float → Float → Float
 AllLow a b c x y low n = (k : ℕ) → k < n → Low low k → weights_inside (weights_of (ground_at a k) (ground_at b k) (ground_at c k) x y) ≡ false
 
 -- where number k is too low, the triangle that the run names there does not cover the point
-abbrev pub Passing : List Float → List ℕ → Float → Float → List ℕ → ℕ → ℕ → List Float → Type 0
-Passing vs is x y run from n low = (k : ℕ) → k < n → Low low k → covers vs is (entry_of run (from + k)) x y ≡ false
+abbrev pub Passing : List Float → List ℕ → Float → Float → List ℕ → ℕ → List Float → Type 0
+Passing vs is x y run n low = (k : ℕ) → k < n → Low low k → covers vs is (entry_of run k) x y ≡ false
 
-pub record Weighed (vs : List Float) (is : List ℕ) (x y : Float) (run : List ℕ) (from n : ℕ) (low : List Float) (whole : Bool) : Type 0 where
-  pub passing : Passing vs is x y run from n low
-  pub flag : Whole vs is run from n whole
+pub record Weighed (vs : List Float) (is : List ℕ) (x y : Float) (run : List ℕ) (n : ℕ) (low : List Float) (whole : Bool) : Type 0 where
+  pub passing : Passing vs is x y run n low
+  pub flag : Whole vs is run n whole
 
 -- triangle t is there, and w are the weights of its corners at the point
 pub record Weighs (vs : List Float) (is : List ℕ) (x y : Float) (t : ℕ) (w : Weights) : Type 0 where
   pub there : present vs is t ≡ true
   pub same : w ≡ weights_at vs is t x y
 
+-- the best by its number alone
+unfoldable pub best_of : Option (Float × WeighedTriangle) → Option (Float × ℕ)
+best_of None = None
+best_of (Some (h, w)) = Some (h, w.triangle)
+
 -- the weights are those of the best, if there is one
-abbrev pub PeakWeighed : List Float → List ℕ → Float → Float → Peak → Type 0
-PeakWeighed vs is x y p = (h : Float) (t : ℕ) → p.best ≡ Some (h, t) → Weighs vs is x y t p.weights
+abbrev pub PeakWeighed : List Float → List ℕ → Float → Float → Option (Float × WeighedTriangle) → Type 0
+PeakWeighed vs is x y p = (h : Float) (w : WeighedTriangle) → p ≡ Some (h, w) → Weighs vs is x y w.triangle w.weights
+
+-- the best after the first n triangles of a run, and what was best before them
+unfoldable pub scan_on : List Float → List ℕ → Float → Float → Option (Float × ℕ) → List ℕ → ℕ → Option (Float × ℕ)
+unfolding scan_by
+scan_on vs is x y start run n = scan_by (λ t. covers vs is t x y) (λ t. height_of vs is t x y) start (entry_of run) n
 
 -- the best of the first n triangles of a run, and whether each of them is there
 pub record HitOf (vs : List Float) (is : List ℕ) (x y : Float) (run : List ℕ) (n : ℕ) (best : Option (Float × ℕ)) (whole : Bool) : Type 0 where
   pub found : best ≡ scan_of vs is x y (entry_of run) n
-  pub flag : Exactly (There vs is run) n whole
+  pub flag : Whole vs is run n whole
 
 -- the best is one of the triangles that a mesh may have
 unfoldable pub Small : Option (Float × ℕ) → Type 0

@@ -1,13 +1,13 @@
 // Consulting an index, of any words: what its first words tell, where the candidates of a point stand, and which
 // entry is no triangle. Nothing is believed of the words that is not looked at.
-#![tactic(auto, using(crate::proofs::Fronts::few, crate::proofs::Laws::Column::col_lt, crate::proofs::Laws::Heads::head_sided, crate::proofs::Laws::Heads::consult_none, crate::proofs::Laws::Heads::entry_none, crate::proofs::Laws::Heads::entry_bad, crate::proofs::Laws::Heads::entry_next), unfolding(shape::specs::Refusal::found, shape::specs::Refusal::refuse, shape::specs::Refusal::number_of, shape::specs::Refusal::place_of, shape::specs::Refusal::or_else, shape::specs::Refusal::judge, crate::specs::Consult::float_at, crate::specs::Consult::inside, crate::specs::Consult::cell_at, crate::specs::Consult::run_of, crate::specs::Consult::start_fault, crate::specs::Steps::front_of, crate::specs::Steps::Opens, crate::specs::Steps::cell_or_outside, crate::specs::Steps::Started))]
+#![tactic(auto, using(crate::proofs::Fronts::few, crate::proofs::Laws::Column::col_lt, crate::proofs::Laws::Heads::head_sided, crate::proofs::Laws::Heads::consult_none, crate::proofs::Laws::Heads::entry_none, crate::proofs::Laws::Heads::entry_bad, crate::proofs::Laws::Heads::entry_next), unfolding(shape::specs::Refusal::found, shape::specs::Refusal::refuse, shape::specs::Refusal::number_of, shape::specs::Refusal::place_of, shape::specs::Refusal::or_else, shape::specs::Refusal::judge, crate::specs::Consult::float_at, crate::specs::Consult::inside, crate::specs::Consult::cell_at, crate::specs::Consult::run_of, crate::specs::Consult::start_fault, crate::specs::Steps::front_of, crate::specs::Opened::Opens, crate::specs::Steps::cell_or_outside, crate::specs::Steps::Started))]
 
-ghost use Rattle.std.specs.Prelude.{◌≡◌, ℕ, ◌-◌, ◌^◌, ◌<◌, ◌≤◌, List, slice_index, slice_range};
+ghost use Rattle.std.specs.Prelude.{◌≡◌, ◌-◌, ◌^◌, ◌<◌, ◌≤◌, true, length};
 ghost use Rattle.shape.specs.Refusal.{fine, found};
 ghost use Rattle.lookup.specs.Consult.{float_at, head_fault, entry_fault, run_of, consult_of};
-ghost use Rattle.lookup.specs.Steps.{Opens, Started, Sided, front_of, cell_or_outside};
+ghost use Rattle.lookup.specs.Steps.{Ready, Started, front_of, cell_or_outside};
 
-use crate::frame::col;
+use crate::frame::Axis;
 use rounding::bits::from_bits32;
 use shape::lists::word_at;
 use shape::refusal::{Refusal, refuse_if};
@@ -76,78 +76,104 @@ fn front_of(index: &[u32]) -> Front
     }
 }
 
-// Looks at the first words of an index of a mesh with `count` triangles, once for all points: what they tell,
-// or that there are no cells to consult.
-pub(crate) fn open(index: &[u32], count: usize) -> Result<Option<Front>, Refusal>
-    ensures { Opens index.now count result }
-{
-    head_fault(index, count)?;
-    if word_at(index, 1) == 0 {
-        return Ok(None);
-    }
-    Ok(Some(front_of(index)))
+// An index that its first words tell to be one of a mesh with `count` triangles and to have cells to consult.
+#[derive(Clone, Copy)]
+pub(crate) struct Index<'a> {
+    pub words: &'a [u32],
+    pub count: usize,
+    pub front: Front,
+    ghost ready: { Ready words.now count front },
 }
 
-// ---- the cell of a point
+impl<'a> Index<'a> {
+    ghost use Rattle.lookup.specs.Opened.{Opens};
 
-// The cell that holds (x, y), if the grid does. A NaN is nowhere.
-fn cell_in(h: Front, x: f32, y: f32) -> Option<usize>
-    requires { (0 < h.cols) × (h.cols ≤ 1024) × (0 < h.rows) × (h.rows ≤ 1024) }
-    ensures { (ws : List ℕ) → h ≡ front_of ws → result ≡ cell_or_outside ws x y }
-{
-    if h.min_x <= x && x <= h.max_x && h.min_y <= y && y <= h.max_y {
-        let row = col(h.min_y, h.cell, h.rows, y);
-        return Some(row * h.cols + col(h.min_x, h.cell, h.cols, x));
-    }
-    None
-}
-
-// The run of cell c: from which place of the index up to which. Its entries are not looked at.
-fn run_in(index: &[u32], h: Front, c: usize) -> Result<Option<(usize, usize)>, Refusal>
-    requires sided { Sided index.now × (h ≡ front_of index.now) }
-    requires c_bound { c < 2 ^ 20 }
-    ensures { (count : ℕ) → Started index.now count (run_of index.now count c) result }
-{
-    let a = word_at(index, 9 + c);
-    let e = word_at(index, 10 + c);
-    refuse_if(h.entries < a, Refusal::ForeignIndex(9 + c))?;
-    refuse_if(e < a || h.entries < e, Refusal::ForeignIndex(10 + c))?;
-    let first = 10 + h.cols * h.rows;
-    Ok(Some((first + a, first + e)))
-}
-
-// Where the candidates of (x, y) stand in an index whose first words are h, if anywhere. The entries are not
-// looked at.
-pub(crate) fn locate(
-    index: &[u32],
-    h: Front,
-    x: f32,
-    y: f32,
-) -> Result<Option<(usize, usize)>, Refusal>
-    requires { Sided index.now × (h ≡ front_of index.now) }
-    ensures { (count : ℕ) → head_fault index.now count ≡ fine → Started index.now count (consult_of index.now count x y) result }
-{
-    let Some(c) = cell_in(h, x, y) else {
-        return Ok(None);
-    };
-    run_in(index, h, c)
-}
-
-// ---- the entries
-
-// The first of the entries from a place up to another that is no triangle.
-pub(crate) fn entry_fault(
-    index: &[u32],
-    count: usize,
-    from: usize,
-    to: usize,
-) -> Result<(), Refusal>
-    ensures { found result ≡ entry_fault index.now count from (to - from) }
-{
-    for i in from..to {
-        if count <= word_at(index, i) {
-            return Err(Refusal::ForeignIndex(i));
+    // Looks at the first words of an index of a mesh with `count` triangles, once for all points: none where
+    // there are no cells to consult.
+    pub(crate) fn open(words: &'a [u32], count: usize) -> Result<Option<Index<'a>>, Refusal>
+        ensures { Opens words.now count result }
+    {
+        head_fault(words, count)?;
+        if word_at(words, 1) == 0 {
+            return Ok(None);
         }
+        Ok(Some(Index {
+            words,
+            count,
+            front: front_of(words),
+        }))
     }
-    Ok(())
+
+    // ---- the cell of a point
+
+    // The cell that holds (x, y), if the grid does. A NaN is nowhere.
+    fn cell(self, x: f32, y: f32) -> Option<usize>
+        ensures { result ≡ cell_or_outside self.entry.words.now x y }
+    {
+        let h = self.front;
+        if h.min_x <= x && x <= h.max_x && h.min_y <= y && y <= h.max_y {
+            let rows = Axis {
+                low: h.min_y,
+                cell: h.cell,
+                count: h.rows,
+            };
+            let columns = Axis {
+                low: h.min_x,
+                cell: h.cell,
+                count: h.cols,
+            };
+            return Some(rows.col(y) * h.cols + columns.col(x));
+        }
+        None
+    }
+
+    // The run of cell c: from which place of the index up to which. Its entries are not looked at.
+    fn run(self, c: usize) -> Result<Option<(usize, usize)>, Refusal>
+        requires { c < 2 ^ 20 }
+        ensures { let ws = self.entry.words.now in let n = self.entry.count in Started ws n (run_of ws n c) result }
+    {
+        let entries = self.front.entries;
+        let a = word_at(self.words, 9 + c);
+        let e = word_at(self.words, 10 + c);
+        refuse_if(entries < a, Refusal::ForeignIndex(9 + c))?;
+        refuse_if(e < a || entries < e, Refusal::ForeignIndex(10 + c))?;
+        let first = 10 + self.front.cols * self.front.rows;
+        Ok(Some((first + a, first + e)))
+    }
+
+    // Where the candidates of (x, y) stand, if anywhere. The entries are not looked at.
+    pub(crate) fn locate(self, x: f32, y: f32) -> Result<Option<(usize, usize)>, Refusal>
+        ensures { let ws = self.entry.words.now in let n = self.entry.count in Started ws n (consult_of ws n x y) result }
+    {
+        let Some(c) = self.cell(x, y) else {
+            return Ok(None);
+        };
+        self.run(c)
+    }
+
+    // ---- the entries
+
+    // The first of the entries from a place up to another that is no triangle.
+    fn entry_fault(self, from: usize, to: usize) -> Result<(), Refusal>
+        ensures { found result ≡ entry_fault self.entry.words.now self.entry.count from (to - from) }
+    {
+        for i in from..to {
+            if self.count <= word_at(self.words, i) {
+                return Err(Refusal::ForeignIndex(i));
+            }
+        }
+        Ok(())
+    }
+
+    // Why the entries from a to e are turned back, if they are. They are not where the scan has found each of
+    // them to be a whole triangle.
+    pub(crate) fn check_run(self, a: usize, e: usize, whole: bool) -> Result<(), Refusal>
+        requires { let ws = self.words.now in whole ≡ true → e ≤ length ws → entry_fault ws self.count a (e - a) ≡ fine }
+        ensures { found result ≡ entry_fault self.entry.words.now self.entry.count a (e - a) }
+    {
+        if whole && e <= self.words.len() {
+            return Ok(());
+        }
+        self.entry_fault(a, e)
+    }
 }

@@ -2,8 +2,9 @@
 ghost use Rattle.std.specs.Prelude.{◌≡◌, ◌+◌, ◌-◌, ◌*◌, ◌<◌, ◌≤◌, min};
 ghost use Rattle.std.specs.Float.{binary32};
 ghost use Rattle.std.specs.Float.Ieee.{to_unsigned};
-ghost use Rattle.lookup.specs.Column.{bucket, col};
+ghost use Rattle.lookup.specs.Column.{col, Width, Width-prop};
 ghost use Rattle.lookup.specs.Frame.{count_of, fine_of, side_of, frame_of};
+ghost use Rattle.lookup.specs.Steps.{Framed};
 
 use crate::boxes::Aabb;
 use rounding::count::count;
@@ -81,44 +82,89 @@ pub(crate) fn frame_of(e: Aabb, count: u32) -> Frame
 
 // ---- columns
 
-// The whole part of q, cut to a grid's last column. A NaN and what lies below 1 have 0. From 1 to 1,024
-// the whole part is the bits of the fraction, with the leading digit, less those that are worth under 1.
-fn cut(q: f32, count: usize) -> usize
-    requires { (0 < count) × (count ≤ 1024) }
-    ensures { result ≡ min (to_unsigned 64 q) (count - 1) }
-{
-    if q >= 1.0 {
-        if q < 1024.0 {
-            let bits = f32::to_bits(q);
-            let digits = bits % 0x80_0000 + 0x80_0000;
-            let i = (digits >> (150 - bits / 0x80_0000)) as usize;
-            if i < count {
-                return i;
+// The columns of a grid, or its rows: where the first starts, how wide each is, and how many there are.
+#[derive(Clone, Copy)]
+pub(crate) struct Axis {
+    pub low: f32,
+    pub cell: f32,
+    pub count: usize,
+    ghost some: { 0 < count },
+    ghost few: { count ≤ 1024 },
+}
+
+impl Axis {
+    // The whole part of q, cut to the last column. A NaN and what lies below 1 have 0. From 1 to 1,024 the whole
+    // part is the bits of the fraction, with the leading digit, less those that are worth under 1.
+    fn cut(self, q: f32) -> usize
+        ensures { result ≡ min (to_unsigned 64 q) (self.count - 1) }
+    {
+        if q >= 1.0 {
+            if q < 1024.0 {
+                let bits = f32::to_bits(q);
+                let digits = bits % 0x80_0000 + 0x80_0000;
+                let i = (digits >> (150 - bits / 0x80_0000)) as usize;
+                if i < self.count {
+                    return i;
+                }
+                return self.count - 1;
             }
-            return count - 1;
+            return self.count - 1;
         }
-        return count - 1;
+        0
     }
-    0
+
+    // The column of x, or the row of a y. A NaN and what lies before the first column go to it, and what lies past
+    // the last to the last.
+    #[tactic(auto, using(crate::proofs::Laws::Column::bucket_cut), unfolding(crate::specs::Column::col))]
+    pub(crate) fn col(self, x: f32) -> usize
+        ensures { result ≡ col binary32 self.low self.cell self.count x }
+    {
+        self.cut((x - self.low) / self.cell)
+    }
 }
 
-// The column of what lies `offset` past the grid's edge. A NaN and what lies before the first column go to
-// it, and what lies past the last to the last.
-#[tactic(auto, using(crate::proofs::Laws::Column::bucket_cut))]
-fn bucket(offset: f32, cell: f32, count: usize) -> usize
-    requires { (0 < count) × (count ≤ 1024) }
-    ensures { result ≡ bucket binary32 offset cell count }
-{
-    cut(offset / cell, count)
+// ---- the grid
+
+// A frame that has a cell at least on each side, and few enough, of a width that is one.
+#[derive(Clone, Copy)]
+pub(crate) struct Grid {
+    pub frame: Frame,
+    ghost framed: { Framed frame },
+    ghost width: { Width frame.cell } by { Width-prop frame.cell },
 }
 
-// The column of x, in a grid that starts at m; the row of a y likewise.
-#[tactic(auto, unfolding(crate::specs::Column::col))]
-pub(crate) fn col(m: f32, cell: f32, count: usize, x: f32) -> usize
-    requires { (0 < count) × (count ≤ 1024) }
-    ensures { result ≡ col binary32 m cell count x }
-{
-    bucket(x - m, cell, count)
+impl Grid {
+    // The grid over an extent.
+    #[tactic(auto, using(crate::proofs::Laws::Frames::framed, crate::proofs::Chain::frame_width))]
+    pub(crate) fn over(e: Aabb, count: u32) -> Grid
+        ensures { result.frame ≡ frame_of e count }
+    {
+        Grid {
+            frame: frame_of(e, count),
+        }
+    }
+
+    // Its columns.
+    pub(crate) fn columns(self) -> Axis
+        ensures { let f = self.frame in (result.low ≡ f.min_x) × (result.cell ≡ f.cell) × (result.count ≡ f.cols) }
+    {
+        Axis {
+            low: self.frame.min_x,
+            cell: self.frame.cell,
+            count: self.frame.cols,
+        }
+    }
+
+    // Its rows.
+    pub(crate) fn rows(self) -> Axis
+        ensures { let f = self.frame in (result.low ≡ f.min_y) × (result.cell ≡ f.cell) × (result.count ≡ f.rows) }
+    {
+        Axis {
+            low: self.frame.min_y,
+            cell: self.frame.cell,
+            count: self.frame.rows,
+        }
+    }
 }
 
 // ---- the cells of a box
@@ -130,15 +176,4 @@ pub struct Block {
     pub right: usize,
     pub low: usize,
     pub high: usize,
-}
-
-// How many cells a block has.
-pub(crate) fn area(b: Block) -> usize
-    requires { (b.right < 1024) × (b.high < 1024) }
-    ensures { result ≡ (b.high + 1 - b.low) * (b.right + 1 - b.left) }
-{
-    if b.right < b.left || b.high < b.low {
-        return 0;
-    }
-    (b.high + 1 - b.low) * (b.right + 1 - b.left)
 }

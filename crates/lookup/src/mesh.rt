@@ -7,7 +7,7 @@ ghost use Rattle.shape.specs.Lists.{lists_of};
 ghost use Rattle.lookup.specs.Mesh.{corners_of, normal_at, triangles};
 ghost use Rattle.lookup.specs.Cover.{slack, det_of, over_a, weight_a, weight_b, weights_of, weights_inside, lift_of, face_up, smooth_of, blend_of, flat_of, normal_of};
 ghost use Rattle.lookup.specs.Plain.{higher_of, scan_of, entry_of, read_answer, answer_of};
-ghost use Rattle.lookup.specs.Sixteen.{ground_at, Grounded, Gathered, AllLow, Passing, Weighed, Weighs, PeakWeighed, HitOf};
+ghost use Rattle.lookup.specs.Sixteen.{ground_at, Grounded, Gathered, AllLow, Passing, Weighed, Weighs, best_of, scan_on, PeakWeighed, HitOf};
 
 use crate::boxes::EDGE_SLACK;
 use rounding::extremes::abs;
@@ -24,10 +24,10 @@ pub struct Weights {
     pub c: f32,
 }
 
-// The highest triangle so far, by its height and number, with the weights of its corners at the point.
+// A triangle, and the weights of its corners at the point.
 #[derive(Clone, Copy)]
-pub struct Peak {
-    pub best: Option<(f32, usize)>,
+pub struct WeighedTriangle {
+    pub triangle: usize,
     pub weights: Weights,
 }
 
@@ -169,44 +169,13 @@ impl Weights {
     }
 }
 
-// The best so far after triangle t of height h: the lower number stays where the heights are equal.
-pub fn higher(best: Option<(f32, usize)>, h: f32, t: usize) -> Option<(f32, usize)>
+// The best so far after one more, t of height h: the earlier stays where the heights are equal.
+pub fn higher<T: Copy>(best: Option<(f32, T)>, h: f32, t: T) -> Option<(f32, T)>
     ensures { result ≡ higher_of best h t }
 {
     match best {
         Some((g, k)) if h <= g => Some((g, k)),
         _ => Some((h, t)),
-    }
-}
-
-impl Peak {
-    // The peak after triangle t of height h, whose corners weigh w.
-    fn higher(self, h: f32, t: usize, w: Weights) -> Peak
-        ensures best_value { result.best ≡ higher_of self.best h t }
-        ensures weights_kept { (result ≡ self) ⊎ ((result.best ≡ Some (h, t)) × (result.weights ≡ w)) }
-    {
-        match self.best {
-            Some((g, _)) if h <= g => self,
-            _ => Peak {
-                best: Some((h, t)),
-                weights: w,
-            },
-        }
-    }
-}
-
-// No triangle yet.
-fn no_peak() -> Peak
-    ensures { result.best ≡ None }
-{
-    Peak {
-        best: None,
-        weights: Weights {
-            det: 0.0,
-            a: 0.0,
-            b: 0.0,
-            c: 0.0,
-        },
     }
 }
 
@@ -281,10 +250,10 @@ pub(crate) fn normal_by(mesh: Mesh, t: usize, x: f32, y: f32, w: Weights) -> Vec
 
 // ---- the scan of a run, by sixteens
 
-// The peak of a run, and whether each triangle of it is there.
+// The highest triangle of a run over the point, if one is, and whether each triangle of the run is there.
 #[derive(Clone, Copy)]
 pub struct Hit {
-    pub peak: Peak,
+    pub peak: Option<(f32, WeighedTriangle)>,
     pub whole: bool,
 }
 
@@ -308,23 +277,21 @@ fn put_ground(xs: &mut [f32], k: usize, p: Point)
     xs[2 * k + 1] = p.y;
 }
 
-// The corners on the ground of the n triangles that a run names from `from` on, and whether all are there. One
-// that is missing is passed over: its place keeps what it holds.
+// The corners on the ground of the triangles that a part of a run names, and whether all are there. One that is
+// missing is passed over: its place keeps what it holds.
 fn gather(
     mesh: Mesh,
-    run: &[u32],
-    from: usize,
-    n: usize,
+    part: &[u32],
     first: &mut [f32],
     second: &mut [f32],
     third: &mut [f32],
 ) -> bool
-    requires { (from + n ≤ length run.now) × (2 * n ≤ length first.old) × (2 * n ≤ length second.old) × (2 * n ≤ length third.old) }
-    ensures { Gathered mesh.entry.vertices.now mesh.entry.indices.now run.now from n first.new second.new third.new result }
+    requires { let n = length part.now in (2 * n ≤ length first.old) × (2 * n ≤ length second.old) × (2 * n ≤ length third.old) }
+    ensures { Gathered mesh.entry.vertices.now mesh.entry.indices.now part.now (length part.now) first.new second.new third.new result }
 {
     let mut whole = true;
-    for k in 0..n {
-        let Some((a, b, c)) = corners(mesh, run[from + k] as usize) else {
+    for (k, t) in part.iter().enumerate() {
+        let Some((a, b, c)) = corners(mesh, *t as usize) else {
             whole = false;
             continue;
         };
@@ -347,38 +314,37 @@ fn weigh_all(a: &[f32], b: &[f32], c: &[f32], n: usize, x: f32, y: f32, low: &mu
     }
 }
 
-// The peak after n more triangles of a run, of which those with too low a least weight are passed over.
+// The highest after those of a part of a run, of which those with too low a least weight are passed over.
 fn low_turns(
     mesh: Mesh,
-    run: &[u32],
-    from: usize,
-    n: usize,
+    part: &[u32],
     low: &[f32],
     x: f32,
     y: f32,
-    before: Peak,
-) -> Peak
-    requires n_in_bounds { (from + n ≤ length run.now) × (n ≤ length low.now) }
-    requires passing { Passing mesh.vertices.now mesh.indices.now x y run.now from n low.now }
-    requires best_value { before.best ≡ scan_of mesh.vertices.now mesh.indices.now x y (entry_of run.now) from }
+    before: Option<(f32, WeighedTriangle)>,
+) -> Option<(f32, WeighedTriangle)>
+    requires low_in_bounds { length part.now ≤ length low.now }
+    requires passing { Passing mesh.vertices.now mesh.indices.now x y part.now (length part.now) low.now }
     requires peak_weighed { PeakWeighed mesh.vertices.now mesh.indices.now x y before }
-    ensures best_after { result.best ≡ scan_of mesh.entry.vertices.now mesh.entry.indices.now x y (entry_of run.now) (from + n) }
+    ensures best_after { best_of result ≡ scan_on mesh.entry.vertices.now mesh.entry.indices.now x y (best_of before) part.now (length part.now) }
     ensures peak_after { PeakWeighed mesh.entry.vertices.now mesh.entry.indices.now x y result }
 {
     let mut peak = before;
-    for k in 0..n {
+    for (k, t) in part.iter().enumerate() {
         if low[k] < -EDGE_SLACK {
             continue;
         }
-        let t = run[from + k] as usize;
-        let Some((a, b, c)) = corners(mesh, t) else {
+        let triangle = *t as usize;
+        let Some((a, b, c)) = corners(mesh, triangle) else {
             continue;
         };
-        let w = weigh(a, b, c, x, y);
-        if !w.inside() {
+        let weights = weigh(a, b, c, x, y);
+        if !weights.inside() {
             continue;
         }
-        peak = peak.higher(w.height(a, b, c), t, w);
+        let height = weights.height(a, b, c);
+        let found = WeighedTriangle { triangle, weights };
+        peak = higher(peak, height, found);
     }
     peak
 }
@@ -391,13 +357,11 @@ fn next_fourth(n: usize) -> usize
     (n + 3) / 4 * 4
 }
 
-// The least weights of n triangles of a run, and whether all are there. That of a missing one may be anything:
-// it covers nothing.
+// The least weights of the triangles of a part of a run, and whether all are there. That of a missing one may be
+// anything: it covers nothing.
 fn weigh_part(
     mesh: Mesh,
-    run: &[u32],
-    from: usize,
-    n: usize,
+    part: &[u32],
     x: f32,
     y: f32,
     a: &mut [f32],
@@ -405,34 +369,31 @@ fn weigh_part(
     c: &mut [f32],
     low: &mut [f32],
 ) -> bool
-    requires n_in_bounds { (from + n ≤ length run.now) × (n ≤ 16) }
+    requires part_few { length part.now ≤ 16 }
     requires in_bounds { (32 ≤ length a.old) × (32 ≤ length b.old) × (32 ≤ length c.old) × (16 ≤ length low.old) }
-    ensures { Weighed mesh.entry.vertices.now mesh.entry.indices.now x y run.now from n low.new result }
+    ensures { Weighed mesh.entry.vertices.now mesh.entry.indices.now x y part.now (length part.now) low.new result }
 {
-    let whole = gather(mesh, run, from, n, a, b, c);
-    weigh_all(a, b, c, next_fourth(n), x, y, low);
+    let whole = gather(mesh, part, a, b, c);
+    weigh_all(a, b, c, next_fourth(part.len()), x, y, low);
     whole
 }
 
-// The peak of the triangles that a run of triangle numbers names, in its order. Nearly all go by their least
-// weight: it is worked out for sixteen at a time, first the corners and then the weights.
+// The highest of the triangles that a run of triangle numbers names, the first of them among equals. Nearly all
+// go by their least weight: it is worked out for sixteen at a time, first the corners and then the weights.
 pub(crate) fn highest(mesh: Mesh, run: &[u32], x: f32, y: f32) -> Hit
-    ensures hit_of { HitOf mesh.entry.vertices.now mesh.entry.indices.now x y run.now (length run.now) result.peak.best result.whole }
+    ensures hit_of { HitOf mesh.entry.vertices.now mesh.entry.indices.now x y run.now (length run.now) (best_of result.peak) result.whole }
     ensures peak_weighed { PeakWeighed mesh.entry.vertices.now mesh.entry.indices.now x y result.peak }
 {
     let mut a = [0f32; 32];
     let mut b = [0f32; 32];
     let mut c = [0f32; 32];
     let mut low = [0f32; 16];
-    let mut peak = no_peak();
+    let mut peak = None;
     let mut whole = true;
-    let mut i: usize = 0;
-    while i < run.len() {
-        let n = (run.len() - i).min(16);
-        let there = weigh_part(mesh, run, i, n, x, y, &mut a, &mut b, &mut c, &mut low);
+    for part in run.chunks(16) {
+        let there = weigh_part(mesh, part, x, y, &mut a, &mut b, &mut c, &mut low);
         whole &= there;
-        peak = low_turns(mesh, run, i, n, &low, x, y, peak);
-        i += n;
+        peak = low_turns(mesh, part, &low, x, y, peak);
     }
     Hit { peak, whole }
 }

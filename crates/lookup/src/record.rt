@@ -2,7 +2,7 @@
 // id; none: zeros; refused: 2, number, place. And the two lookups at one point, answered by it.
 #![tactic(auto, using(crate::proofs::Laws::Batch::word_is), unfolding(shape::specs::Refusal::found, shape::specs::Refusal::refuse, shape::specs::Refusal::number_of, shape::specs::Refusal::place_of, shape::specs::Refusal::told, shape::specs::Refusal::leaves, shape::specs::Refusal::judge, crate::specs::Batch::record_of, crate::specs::Batch::lane_there, crate::specs::Batch::lane_id, crate::specs::Batch::word_for, crate::specs::Sampler::read_sampled, crate::specs::Plain::read_answer, crate::specs::Record::RecordFits, crate::specs::Record::plain_sample))]
 
-ghost use Rattle.std.specs.Prelude.{◌≡◌, ℕ, ◌+◌, ◌^◌, ◌<◌, ◌≤◌, [], ◌∷◌, length, slice_index, Some, Ok};
+ghost use Rattle.std.specs.Prelude.{◌≡◌, ℕ, ◌+◌, ◌^◌, ◌<◌, ◌≤◌, [], ◌∷◌, length, slice_index, None};
 ghost use Rattle.shape.specs.Lists.{lists_of};
 ghost use Rattle.shape.specs.Memory.{Put};
 ghost use Rattle.shape.specs.Refusal.{taken, told, leaves};
@@ -32,47 +32,36 @@ pub(crate) fn words_fit(_words: &[u32])
     ensures { (i : ℕ) → slice_index _words.now i < 2 ^ 32 }
 {}
 
-// The words of a record from `at` on, and where they end.
-fn put_words(out: &mut [u32], at: usize, words: [u32; RECORD_WORDS]) -> usize
-    requires { at + record_words ≤ length out.old }
-    ensures { Put out.old out.new at words result }
+// The record of a point's answer.
+fn record(s: Result<Option<Sampled>, Refusal>) -> [u32; RECORD_WORDS]
+    requires { RecordFits (read_sampled s) }
+    ensures { result ≡ record_of (read_sampled s) }
 {
-    let next = at + RECORD_WORDS;
-    out[at..next].copy_from_slice(&words);
-    next
+    match s {
+        Ok(Some(found)) => [
+            1,
+            bits32(found.height),
+            bits32(found.normal.x),
+            bits32(found.normal.y),
+            bits32(found.normal.z),
+            word(found.triangle),
+            found.detail.lane.is_some() as u32,
+            word(found.detail.lane.unwrap_or(0)),
+        ],
+        Ok(None) => [0; RECORD_WORDS],
+        Err(r) => [2, r.number(), word(r.place()), 0, 0, 0, 0, 0],
+    }
 }
 
-// The record of a point's answer, from `at` on.
+// The record of a point's answer from `at` on, and where it ends.
 pub(crate) fn put_record(out: &mut [u32], at: usize, s: Result<Option<Sampled>, Refusal>) -> usize
     requires record_words_in_bounds { at + record_words ≤ length out.old }
     requires record_fits { RecordFits (read_sampled s) }
     ensures { Put out.old out.new at (record_of (read_sampled s)) result }
 {
-    match s {
-        Ok(Some(found)) => put_found(out, at, found),
-        Ok(None) => put_words(out, at, [0; RECORD_WORDS]),
-        Err(r) => put_words(out, at, [2, r.number(), word(r.place()), 0, 0, 0, 0, 0]),
-    }
-}
-
-// The record of what is found.
-fn put_found(out: &mut [u32], at: usize, s: Sampled) -> usize
-    requires record_words_in_bounds { at + record_words ≤ length out.old }
-    requires record_fits { RecordFits (read_sampled (Ok (Some s))) }
-    ensures { Put out.old out.new at (record_of (read_sampled (Ok (Some s)))) result }
-{
-    let lane = s.detail.lane;
-    let words = [
-        1,
-        bits32(s.height),
-        bits32(s.normal.x),
-        bits32(s.normal.y),
-        bits32(s.normal.z),
-        word(s.triangle),
-        lane.is_some() as u32,
-        word(lane.unwrap_or(0)),
-    ];
-    put_words(out, at, words)
+    let next = at + RECORD_WORDS;
+    out[at..next].copy_from_slice(&record(s));
+    next
 }
 
 // The record of an answer at the front: 1 where it has a height, 0 where it has none. One that is refused writes
@@ -92,19 +81,25 @@ fn answer_by(words: &mut [u32], s: Result<Option<Sampled>, Refusal>) -> Result<u
     Ok(found.is_some() as usize)
 }
 
+// What the plain lookup finds has no lane.
+impl From<Found> for Sampled {
+    ghost from_gives = { λ f s. (s.height ≡ f.height) × (s.normal ≡ f.normal) × (s.triangle ≡ f.triangle) × (s.detail.lane ≡ None) };
+
+    fn from(f: Found) -> Sampled {
+        Sampled {
+            height: f.height,
+            normal: f.normal,
+            triangle: f.triangle,
+            detail: Detail { lane: None },
+        }
+    }
+}
+
 // The plain lookup's answer with no lane.
 fn without_lane(a: Result<Option<Found>, Refusal>) -> Result<Option<Sampled>, Refusal>
     ensures { read_sampled result ≡ plain_sample (read_answer a) }
 {
-    let Some(f) = a? else {
-        return Ok(None);
-    };
-    Ok(Some(Sampled {
-        height: f.height,
-        normal: f.normal,
-        triangle: f.triangle,
-        detail: Detail { lane: None },
-    }))
+    Ok(a?.map(Sampled::from))
 }
 
 // The plain lookup, its answer written as a record at the front of what is lent: 1 where there is a height, 0

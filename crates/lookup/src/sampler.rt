@@ -1,18 +1,16 @@
 // The indexed lookup: the highest of the point's candidates, with the lane that its triangle belongs to.
-#![tactic(auto, using(crate::proofs::Answers::turned_back, crate::proofs::Answers::nothing), unfolding(shape::specs::Refusal::found, shape::specs::Refusal::refuse, shape::specs::Refusal::number_of, shape::specs::Refusal::place_of, shape::specs::Refusal::or_else, shape::specs::Lists::longer, crate::specs::Sampler::read_sampled, crate::specs::Sampler::sample_of, crate::specs::Sixteen::Small, crate::specs::Steps::Started, crate::specs::Steps::Opens))]
+#![tactic(auto, using(crate::proofs::Answers::turned_back, crate::proofs::Answers::nothing), unfolding(shape::specs::Refusal::found, shape::specs::Refusal::refuse, shape::specs::Refusal::number_of, shape::specs::Refusal::place_of, shape::specs::Refusal::or_else, shape::specs::Lists::longer, crate::specs::Sampler::read_sampled, crate::specs::Sampler::sample_of, crate::specs::Sixteen::Small, crate::specs::Sixteen::best_of, crate::specs::Steps::Started, crate::specs::Opened::Opens))]
 
-ghost use Rattle.std.specs.Prelude.{◌≡◌, ◌-◌, ◌/◌, ◌<◌, ◌≤◌, true, length, Ok};
+ghost use Rattle.std.specs.Prelude.{◌≡◌, Ok};
 ghost use Rattle.shape.specs.Refusal.{fine, taken, found};
 ghost use Rattle.shape.specs.Lists.{lists_of};
-ghost use Rattle.lookup.specs.Sampler.{EndsRise, top_fault, read_sampled, sample_of, top_of};
-ghost use Rattle.lookup.specs.Consult.{entry_fault};
+ghost use Rattle.lookup.specs.Sampler.{top_fault, read_sampled, sample_of, top_of};
 ghost use Rattle.lookup.specs.Mesh.{triangles};
-ghost use Rattle.lookup.specs.Sixteen.{Small, PeakWeighed};
-ghost use Rattle.lookup.specs.Steps.{Ready};
+ghost use Rattle.lookup.specs.Sixteen.{Small, best_of, PeakWeighed};
 
-use crate::consult::{Front, MAX_WORDS, entry_fault, locate, open};
-use crate::lane::lane_of;
-use crate::mesh::{Peak, highest, normal_by};
+use crate::consult::{Index, MAX_WORDS};
+use crate::lane::Spans;
+use crate::mesh::{WeighedTriangle, highest, normal_by};
 use shape::lists::{Mesh, part};
 use shape::refusal::{Refusal, refuse_if};
 use vector::coords::Vector;
@@ -44,54 +42,55 @@ pub(crate) fn top_fault(mesh: Mesh, index: &[u32]) -> Result<(), Refusal>
     mesh.ragged(0)
 }
 
-// Why the entries from a to e are turned back, if they are. They are not where the scan has found each of them
-// to be a whole triangle.
-fn run_check(index: &[u32], count: usize, a: usize, e: usize, whole: bool) -> Result<(), Refusal>
-    requires { whole ≡ true → e ≤ length index.now → entry_fault index.now count a (e - a) ≡ fine }
-    ensures { found result ≡ entry_fault index.now count a (e - a) }
-{
-    if whole && e <= index.len() {
-        return Ok(());
+// A mesh and an index of it that are not turned back, where the index has cells to consult: points may be asked.
+#[derive(Clone, Copy)]
+pub(crate) struct Sampler<'a> {
+    pub mesh: Mesh<'a>,
+    pub index: Index<'a>,
+    ghost in_order: { top_fault (lists_of mesh) index.words.now ≡ fine },
+    ghost counted: { index.count ≡ triangles mesh.indices.now },
+}
+
+impl<'a> Sampler<'a> {
+    // The spans, which are in order.
+    fn spans(self) -> Spans<'a>
+        ensures { result.words.now ≡ self.entry.mesh.spans.now }
+    {
+        Spans {
+            words: self.mesh.spans,
+        }
     }
-    entry_fault(index, count, a, e)
-}
 
-// The answer that the peak gives: its height, normal, number and lane.
-fn answer_of(mesh: Mesh, x: f32, y: f32, peak: Peak) -> Option<Sampled>
-    requires small { Small peak.best × (length mesh.spans.now ≤ 5120) × EndsRise mesh.spans.now (length mesh.spans.now / 5) }
-    requires peak_weighed { PeakWeighed mesh.vertices.now mesh.indices.now x y peak }
-    ensures { read_sampled (Ok result) ≡ taken (sample_of (lists_of mesh.entry) x y peak.best) }
-{
-    let (height, triangle) = peak.best?;
-    Some(Sampled {
-        height,
-        normal: normal_by(mesh, triangle, x, y, peak.weights),
-        triangle,
-        detail: Detail {
-            lane: lane_of(mesh.spans, triangle),
-        },
-    })
-}
+    // The answer that the peak gives: its height, normal, number and lane.
+    fn answer(self, x: f32, y: f32, peak: Option<(f32, WeighedTriangle)>) -> Option<Sampled>
+        requires small { Small (best_of peak) }
+        requires peak_weighed { PeakWeighed self.mesh.vertices.now self.mesh.indices.now x y peak }
+        ensures { read_sampled (Ok result) ≡ taken (sample_of (lists_of self.entry.mesh) x y (best_of peak)) }
+    {
+        let (height, top) = peak?;
+        let triangle = top.triangle;
+        Some(Sampled {
+            height,
+            normal: normal_by(self.mesh, triangle, x, y, top.weights),
+            triangle,
+            detail: Detail {
+                lane: self.spans().lane(triangle),
+            },
+        })
+    }
 
-// The answer at (x, y) where the five lists are in order and the index's first words are h: the highest of
-// the point's candidates, of the lowest number among equals, with its height, normal, number and lane.
-pub(crate) fn sample_in(
-    mesh: Mesh,
-    index: &[u32],
-    h: Front,
-    x: f32,
-    y: f32,
-) -> Result<Option<Sampled>, Refusal>
-    requires index_value { top_fault (lists_of mesh) index.now ≡ fine }
-    requires ready { Ready index.now (triangles mesh.indices.now) h }
-    ensures { read_sampled result ≡ top_of (lists_of mesh.entry) index.now x y }
-{
-    let Some((from, to)) = locate(index, h, x, y)? else {
-        return Ok(None);
-    };
-    let hit = highest(mesh, part(index, from, to), x, y);
-    run_check(index, mesh.indices.len() / 3, from, to, hit.whole)?;
-    Ok(answer_of(mesh, x, y, hit.peak))
+    // The answer at (x, y): the highest of the point's candidates, of the lowest number among equals, with its
+    // height, normal, number and lane.
+    pub(crate) fn sample(self, x: f32, y: f32) -> Result<Option<Sampled>, Refusal>
+        ensures { read_sampled result ≡ top_of (lists_of self.entry.mesh) self.entry.index.words.now x y }
+    {
+        let Some((from, to)) = self.index.locate(x, y)? else {
+            return Ok(None);
+        };
+        let hit = highest(self.mesh, part(self.index.words, from, to), x, y);
+        self.index.check_run(from, to, hit.whole)?;
+        Ok(self.answer(x, y, hit.peak))
+    }
 }
 
 // The highest of the point's candidates, of the lowest number among equals: its height, normal, number
@@ -100,8 +99,8 @@ pub fn top(mesh: Mesh, index: &[u32], x: f32, y: f32) -> Result<Option<Sampled>,
     ensures { read_sampled result ≡ top_of (lists_of mesh.entry) index.now x y }
 {
     top_fault(mesh, index)?;
-    match open(index, mesh.indices.len() / 3)? {
-        Some(h) => sample_in(mesh, index, h, x, y),
+    match Index::open(index, mesh.indices.len() / 3)? {
+        Some(index) => Sampler { mesh, index }.sample(x, y),
         None => Ok(None),
     }
 }

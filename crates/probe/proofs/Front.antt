@@ -1,7 +1,8 @@
 -- What was read into a buffer is the front of the input: all of it where the buffer was not filled. Assumes nothing.
-use Rattle.std.proofs.Common.{◌≡◌, ℕ, ◌≤◌, ◌<◌, List, [], ◌++◌, Option, None, Some, IfSome, inl, inr, arith, length, take, sym, ap, ◌∙◌, subst, length-take-le, append-nil, take_all}
+use Rattle.std.proofs.Common.{◌≡◌, ℕ, ◌≤◌, ◌<◌, List, [], ◌++◌, Option, None, Some, IfSome, Result, Ok, Err, inl, inr, arith, length, take, sym, ap, ◌∙◌, subst, length-take-le, append-nil, take_all}
 use Rattle.std.proofs.lemmas.List.{take-append-le}
 use Rattle.std.proofs.lemmas.Bool.{cases_lt}
+use Rattle.std.specs.Result.{MatchResult, IsErrAnd, IfOk, OnOk}
 use Rattle.std.specs.Io.KnownBytes.{Consumes, IsAtEnd}
 
 module _ (room : ℕ) (bs : List ℕ) (n : ℕ) (size : length bs ≡ room) (within : n ≤ length bs) where
@@ -32,3 +33,18 @@ module _ (room : ℕ) (bs : List ℕ) (n : ℕ) (size : length bs ≡ room) (wit
 pub text_front : (made rest text : List ℕ) (m : ℕ) → m ≡ length made → text ≡ made ++ rest → take m text ≡ made
 text_front made rest text m e f =
     ap (take m) f ∙ take-append-le m made rest (omega arith) ∙ take_all m made (omega arith)
+
+-- a result with another error: its value is that of the first, and what holds where there is one still holds
+module _ {T E D : Type 0} (Q : E → D → Type 0) where
+  abbrev value : T → Result T D → T
+  value x (Ok y) = y
+  value x (Err e) = x
+
+  pub of_value : (first : Result T E) (then : Result T D) (n : T) (P : T → Type 0) → MatchResult first (λ x. then ≡ Ok x) (λ e. IsErrAnd then (Q e)) → then ≡ Ok n → IfOk first P → P n
+  of_value (Ok x) then n P m w h = subst P (ap (value x) (sym m ∙ w)) h
+  of_value (Err e) then n P m w h = absurd (subst (λ r. IsErrAnd r (Q e)) w m)
+
+  pub on_ok : (first : Result T E) (then : Result T D) (A B : Type 0) → (A → B) → MatchResult first (λ x. then ≡ Ok x) (λ e. IsErrAnd then (Q e)) → OnOk first A → OnOk then B
+  on_ok (Ok x) then A B f m h = subst (λ r. OnOk r B) (sym m) (f h)
+  on_ok (Err e) (Ok y) A B f m h = absurd m
+  on_ok (Err e) (Err d) A B f m h = tt

@@ -46,16 +46,9 @@ fn run<R: Read, W: Write>(input: &mut R, output: &mut W) -> Result<(), Failure>
 {
     let mut bytes = [0u8; 65537];
     let mut text = [0u8; 204834];
-    match read_input(input, &mut bytes) {
-        Err(e) => Err(Failure::Input(e)),
-        Ok(n) => {
-            let m = probe(&bytes[..n], &mut text);
-            match output.write_all(&text[..m]) {
-                Err(e) => Err(Failure::Output(e)),
-                Ok(()) => Ok(()),
-            }
-        }
-    }
+    let n = read_input(input, &mut bytes).map_err(Failure::Input)?;
+    let m = probe(&bytes[..n], &mut text);
+    output.write_all(&text[..m]).map_err(Failure::Output)
 }
 
 // Tells on standard error what failed, and why, in the system's words alone: std puts the error's number

@@ -1,20 +1,16 @@
 // The operations on elevation grids.
 use crate::refused::put_refusal;
-use shape::elevation::{
-    ElevationGrid, Heights, Line, Patch, coefficients, height, height_at, row_slopes,
-};
+use shape::elevation::{ElevationGrid, Heights, Line, Patch, coefficients, row_slopes};
 use shape::refusal::Refusal;
 use stored::answer::Answer;
 use stored::lent::Case;
-use stored::numbers::double;
-use stored::stream::word;
 
 // ---- patch
 
-pub fn patch_case(given: &[u32], answer: &mut Answer) -> Option<()> {
+pub fn patch_case(case: &mut Case, answer: &mut Answer) -> Option<()> {
     let mut m = [0.0f64; 16];
-    for (i, x) in m.iter_mut().enumerate() {
-        *x = double(given, i.wrapping_mul(2));
+    for x in m.iter_mut() {
+        *x = case.double();
     }
     for x in coefficients(Patch { m }).m {
         answer.double(x);
@@ -24,20 +20,19 @@ pub fn patch_case(given: &[u32], answer: &mut Answer) -> Option<()> {
 
 // ---- slopes
 
-// A height that may be missing: whether it is there, and it, from word i on.
-fn spot(given: &[u32], i: usize) -> Option<f64> {
-    match word(given, i) {
-        0 => None,
-        _ => Some(double(given, i.wrapping_add(1))),
-    }
+// A height that may be missing: whether it is there, and it.
+fn spot(case: &mut Case) -> Option<f64> {
+    let there = case.word() > 0;
+    let z = case.double();
+    there.then_some(z)
 }
 
-pub fn slopes_case(given: &[u32], answer: &mut Answer) -> Option<()> {
+pub fn slopes_case(case: &mut Case, answer: &mut Answer) -> Option<()> {
     let slopes = row_slopes(Line {
-        before: spot(given, 0),
-        first: spot(given, 3),
-        second: spot(given, 6),
-        after: spot(given, 9),
+        before: spot(case),
+        first: spot(case),
+        second: spot(case),
+        after: spot(case),
     });
     answer.test(slopes.is_some());
     match slopes {
@@ -52,15 +47,15 @@ pub fn slopes_case(given: &[u32], answer: &mut Answer) -> Option<()> {
 
 // ---- heights
 
-// The numbers of a grid, from word i on.
-pub fn grid_at(given: &[u32], i: usize) -> ElevationGrid {
+// The numbers of a grid.
+pub fn grid(case: &mut Case) -> ElevationGrid {
     ElevationGrid {
-        origin_x: double(given, i),
-        origin_y: double(given, i.wrapping_add(2)),
-        sin: double(given, i.wrapping_add(4)),
-        cos: double(given, i.wrapping_add(6)),
-        start: double(given, i.wrapping_add(8)),
-        spacing: double(given, i.wrapping_add(10)),
+        origin_x: case.double(),
+        origin_y: case.double(),
+        sin: case.double(),
+        cos: case.double(),
+        start: case.double(),
+        spacing: case.double(),
     }
 }
 
@@ -81,28 +76,26 @@ fn put_elevation(answer: &mut Answer, found: Result<Option<f64>, Refusal>) {
     }
 }
 
-// How many questions there are, and the answers to them.
-pub fn height_case(op: u32, given: &[u32], answer: &mut Answer) -> Option<()> {
+// How many questions there are, and the answers that `height` has to them.
+pub(crate) fn height_case<F>(height: F, case: &mut Case, answer: &mut Answer) -> Option<()>
+where
+    F: Fn(ElevationGrid, Heights, f64, f64) -> Result<Option<f64>, Refusal>,
+    requires { F.IsAlwaysCallable height }
+{
     let mut rows = [0u32; 6200];
     let mut left = [0.0f64; 2100];
     let mut right = [0.0f64; 2100];
     let mut questions = [0.0f64; 200];
-    let mut case = Case::new(given, 12);
+    let grid = grid(case);
     let heights = Heights {
         rows: case.list(&mut rows)?,
         left: case.list(&mut left)?,
         right: case.list(&mut right)?,
     };
     let questions = case.list(&mut questions)?;
-    let grid = grid_at(given, 0);
     answer.number(questions.len() / 2);
     for q in questions.chunks_exact(2) {
-        let found = if op == 30 {
-            height(grid, heights, q[0], q[1])
-        } else {
-            height_at(grid, heights, q[0], q[1])
-        };
-        put_elevation(answer, found);
+        put_elevation(answer, height(grid, heights, q[0], q[1]));
     }
     Some(())
 }

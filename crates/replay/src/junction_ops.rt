@@ -1,5 +1,5 @@
 // The operations on junction triangles.
-use crate::grid_ops::grid_at;
+use crate::grid_ops::grid;
 use crate::refused::put_count;
 use shape::ears::ear_clip;
 use shape::elevation::{ElevationGrid, Heights};
@@ -9,10 +9,9 @@ use stored::lent::{BLANK, BLANK_WORD, Case};
 
 // ---- ear_clip
 
-pub fn ear_case(given: &[u32], answer: &mut Answer) -> Option<()> {
+pub fn ear_case(case: &mut Case, answer: &mut Answer) -> Option<()> {
     let mut points = [0.0f32; 3100];
     let mut ears = [BLANK_WORD; 3100];
-    let mut case = Case::new(given, 0);
     let points = case.list(&mut points)?;
     let ears = &mut ears[..case.room(3100)?];
     put_count(answer, ear_clip(points, ears));
@@ -21,14 +20,6 @@ pub fn ear_case(given: &[u32], answer: &mut Answer) -> Option<()> {
 }
 
 // ---- junction_mesh
-
-// The grid, if the first word says that there is one.
-fn grid_if(given: &[u32]) -> Option<ElevationGrid> {
-    match Case::new(given, 0).number() {
-        0 => None,
-        _ => Some(grid_at(given, 1)),
-    }
-}
 
 // The ground of a ring, where the case gives the room in each output next.
 fn ground(
@@ -54,17 +45,19 @@ fn ground(
     Some(())
 }
 
-pub fn junction_case(given: &[u32], answer: &mut Answer) -> Option<()> {
+// Whether there is a grid, its numbers, the ring and the lists of the heights.
+pub fn junction_case(case: &mut Case, answer: &mut Answer) -> Option<()> {
     let mut ring = [0.0f32; 3100];
     let mut rows = [0u32; 6200];
     let mut left = [0.0f64; 2100];
     let mut right = [0.0f64; 2100];
-    let mut case = Case::new(given, 13);
+    let there = case.number() > 0;
+    let grid = grid(case);
     let ring = case.list(&mut ring)?;
     let heights = Heights {
         rows: case.list(&mut rows)?,
         left: case.list(&mut left)?,
         right: case.list(&mut right)?,
     };
-    ground(&mut case, ring, grid_if(given), heights, answer)
+    ground(case, ring, there.then_some(grid), heights, answer)
 }

@@ -55,9 +55,11 @@ fn put_sample(answer: &mut Answer, sampled: Result<Option<Sampled>, Refusal>) {
 
 // ---- what a case gives after the mesh
 
-// The points asked one by one.
-fn plain_case(case: &mut Case, mesh: Mesh, answer: &mut Answer) -> Option<()> {
+// The points asked of the mesh itself.
+pub fn plain_case(case: &mut Case, answer: &mut Answer) -> Option<()> {
+    let mut memory = MeshMemory::new();
     let mut points = [0.0f32; 256];
+    let mesh = memory.mesh(case)?;
     let points = case.list(&mut points)?;
     answer.number(points.len() / 2);
     for p in points.chunks_exact(2) {
@@ -67,30 +69,39 @@ fn plain_case(case: &mut Case, mesh: Mesh, answer: &mut Answer) -> Option<()> {
 }
 
 // The room for an index.
-fn build_case(case: &mut Case, mesh: Mesh, answer: &mut Answer) -> Option<()> {
+pub fn build_case(case: &mut Case, answer: &mut Answer) -> Option<()> {
+    let mut memory = MeshMemory::new();
     let mut index = [BLANK_WORD; 16384];
+    let mesh = memory.mesh(case)?;
     let index = &mut index[..case.room(16384)?];
     put_count(answer, build(mesh, index));
     answer.words(index);
     Some(())
 }
 
-// The points asked of an index one by one, or all in one call, as the operation says.
-fn asked_of(
-    op: u32,
+// The points asked of an index one by one.
+pub fn singly(
+    _: &mut Case,
+    mesh: Mesh,
+    index: &[u32],
+    points: &[f32],
+    answer: &mut Answer,
+) -> Option<()> {
+    answer.number(points.len() / 2);
+    for p in points.chunks_exact(2) {
+        put_sample(answer, top(mesh, index, p[0], p[1]));
+    }
+    Some(())
+}
+
+// The points asked of an index in one call, where the case gives the room for their records next.
+pub fn at_once(
     case: &mut Case,
     mesh: Mesh,
     index: &[u32],
     points: &[f32],
     answer: &mut Answer,
 ) -> Option<()> {
-    if op < 43 {
-        answer.number(points.len() / 2);
-        for p in points.chunks_exact(2) {
-            put_sample(answer, top(mesh, index, p[0], p[1]));
-        }
-        return Some(());
-    }
     let mut records = [BLANK_WORD; 1040];
     let records = &mut records[..case.room(1040)?];
     put_count(answer, tops(mesh, index, points, records));
@@ -99,31 +110,31 @@ fn asked_of(
 }
 
 // The points are asked of the index that is built of the mesh; of no words where that is turned back.
-fn indexed_case(op: u32, case: &mut Case, mesh: Mesh, answer: &mut Answer) -> Option<()> {
+pub(crate) fn indexed_case<F>(ask: F, case: &mut Case, answer: &mut Answer) -> Option<()>
+where
+    F: Fn(&mut Case, Mesh, &[u32], &[f32], &mut Answer) -> Option<()>,
+    requires { F.IsAlwaysCallable ask }
+{
+    let mut memory = MeshMemory::new();
     let mut index = [BLANK_WORD; 16384];
     let mut points = [0.0f32; 256];
+    let mesh = memory.mesh(case)?;
     let points = case.list(&mut points)?;
     let used = build(mesh, &mut index).unwrap_or(0).min(16384);
-    asked_of(op, case, mesh, &index[..used], points, answer)
+    ask(case, mesh, &index[..used], points, answer)
 }
 
 // The points are asked of the words that the case gives for an index.
-fn words_case(op: u32, case: &mut Case, mesh: Mesh, answer: &mut Answer) -> Option<()> {
+pub(crate) fn words_case<F>(ask: F, case: &mut Case, answer: &mut Answer) -> Option<()>
+where
+    F: Fn(&mut Case, Mesh, &[u32], &[f32], &mut Answer) -> Option<()>,
+    requires { F.IsAlwaysCallable ask }
+{
+    let mut memory = MeshMemory::new();
     let mut index = [0u32; 16384];
     let mut points = [0.0f32; 256];
+    let mesh = memory.mesh(case)?;
     let index = case.list(&mut index)?;
     let points = case.list(&mut points)?;
-    asked_of(op, case, mesh, index, points, answer)
-}
-
-pub fn lookup_case(op: u32, given: &[u32], answer: &mut Answer) -> Option<()> {
-    let mut memory = MeshMemory::new();
-    let mut case = Case::new(given, 0);
-    let mesh = memory.mesh(&mut case)?;
-    match op {
-        38 => plain_case(&mut case, mesh, answer),
-        39 => build_case(&mut case, mesh, answer),
-        40 | 43 => indexed_case(op, &mut case, mesh, answer),
-        _ => words_case(op, &mut case, mesh, answer),
-    }
+    ask(case, mesh, index, points, answer)
 }

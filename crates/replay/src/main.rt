@@ -9,24 +9,18 @@ mod junction_ops;
 mod lists;
 mod lookup_ops;
 mod mesh_ops;
-mod names;
+mod ops;
 mod outline_ops;
 mod probe_ops;
 mod refused;
-mod shape_ops;
 mod verdict_ops;
 
-ghost use Rattle.std.specs.Prelude.{◌≡◌, ℕ, ◌<◌, true};
-ghost use Rattle.stored.specs.Words.{get_word};
-
-use names::{at_limits, name};
+use ops::Op;
 use std::io;
 use std::io::Read;
 use stored::answer::Answer;
-use stored::rounding_ops::may_panic;
-use stored::stream::{Words, word};
+use stored::stream::Words;
 use stored::text::{Tally, block_line, last_line};
-use stored::{rounding_ops, vector_ops};
 
 // How a case came out.
 #[derive(Clone, Copy)]
@@ -59,15 +53,6 @@ impl Outcome {
     }
 }
 
-// What is known after some cases of an operation: their tally, how many stand before the first that differs, and
-// whether the list is broken there: it breaks off, or the case has more words than there is room for.
-#[derive(Clone, Copy)]
-struct Run {
-    tally: Tally,
-    first: u64,
-    broken: bool,
-}
-
 // Memory for a case: what is given, what is wanted, and what is made.
 #[derive(Drop)]
 struct Memory {
@@ -76,87 +61,60 @@ struct Memory {
     made: [u32; 32768],
 }
 
-// Are the first n words the same?
-fn same(a: &[u32], b: &[u32], n: usize) -> bool
-    ensures { result ≡ true → (k : ℕ) → k < n → get_word a.now k ≡ get_word b.now k }
-{
-    for i in 0..n {
-        if word(a, i) != word(b, i) {
-            return false;
-        }
-    }
-    true
-}
-
-// Works an operation of any layer on the words given, and answers how many words it puts to the start of `made`.
-// There is none for an operation that is not known, and for a count of words that is not its own.
-fn work(op: u32, given: &[u32], made: &mut [u32]) -> Option<usize> {
-    let mut answer = Answer::new(made);
-    if given.is_empty() {
-        return None;
-    }
-    if given.len() == rounding_ops::takes(op) {
-        rounding_ops::work(op, given, &mut answer);
-    } else if given.len() == vector_ops::takes(op) {
-        vector_ops::work(op, given, &mut answer);
-    } else {
-        shape_ops::work(op, given, &mut answer)?;
-    }
-    Some(answer.count())
-}
-
-// Works one case. Where there is no answer, that is a difference.
-fn judge(op: u32, given: &[u32], made: &mut [u32], wanted: &[u32]) -> Outcome {
-    let n = work(op, given, made).unwrap_or(0);
-    if n == 0 || n != wanted.len() || !same(made, wanted, n) {
+// Works one case of an operation, if it is known. Where there is no answer, that is a difference.
+fn judge(op: Option<Op>, given: &[u32], made: &mut [u32], wanted: &[u32]) -> Outcome {
+    let Some(op) = op else {
+        return Outcome::Differs;
+    };
+    if op.answer(given, made) != Some(wanted) {
         return Outcome::Differs;
     }
-    if may_panic(op) && word(wanted, 0) == 0 {
+    if op.may_panic() && wanted.first() == Some(&0) {
         return Outcome::Skipped;
     }
     Outcome::Same
 }
 
-// Reads and works the next case, if it is whole.
-fn case<R: Read>(op: u32, input: &mut Words<R>, memory: &mut Memory) -> Option<Outcome> {
+// Reads and works the next case. There is none where the list is broken: it breaks off, or the case has more words
+// than there is room for.
+fn case<R: Read>(op: Option<Op>, input: &mut Words<R>, memory: &mut Memory) -> Option<Outcome> {
     let Memory {
         given,
         wanted,
         made,
     } = memory;
-    let n = input.list(given)?;
-    let m = input.list(wanted)?;
-    Some(judge(op, &given[..n], made, &wanted[..m]))
+    let given = input.list(given)?;
+    let wanted = input.list(wanted)?;
+    Some(judge(op, given, made, wanted))
 }
 
-// The n cases of an operation.
-fn cases<R: Read>(op: u32, n: u32, input: &mut Words<R>, memory: &mut Memory) -> Run {
-    let mut run = Run {
-        tally: Tally::default(),
-        first: 0,
-        broken: false,
-    };
-    for _ in 0..n {
+// The tally of the n cases of an operation, or of those before the list is broken, and the number of the first that
+// differs, from 0.
+fn cases<R: Read>(
+    op: Option<Op>,
+    n: u32,
+    input: &mut Words<R>,
+    memory: &mut Memory,
+) -> (Tally, Option<u32>) {
+    let mut tally = Tally::default();
+    let mut first = None;
+    for i in 0..n {
         let Some(outcome) = case(op, input, memory) else {
-            run.broken = true;
             break;
         };
-        run.tally = run.tally + outcome.tally();
-        if run.tally.differ == 0 {
-            run.first = run.tally.cases;
+        tally = tally + outcome.tally();
+        if tally.differ > 0 && first.is_none() {
+            first = Some(i);
         }
     }
-    run
+    (tally, first)
 }
 
 // The name of an operation in its line.
-fn print_name(out: &impl Print, op: u32) -> io::Result<()> {
-    match at_limits(op) {
-        Some(name) => print!(out; "{name} at its limits"),
-        None => {
-            let name = name(op);
-            print!(out; "{name}")
-        }
+fn print_name(out: &impl Print, op: Option<Op>) -> io::Result<()> {
+    match op {
+        Some(op) => print!(out; "{op}"),
+        None => print!(out; "unknown operation"),
     }
 }
 
@@ -170,17 +128,18 @@ fn replay<R: Read>(
 ) -> io::Result<(Tally, bool)> {
     let mut all = Tally::default();
     for _ in 0..u64::MAX {
-        let Some(op) = input.word() else {
+        let Some(number) = input.word() else {
             return Ok((all, input.is_torn()));
         };
         let Some(n) = input.word() else {
             return Ok((all, true));
         };
-        let run = cases(op, n, input, memory);
+        let op = Op::try_from(number).ok();
+        let (tally, first) = cases(op, n, input, memory);
         print_name(out, op)?;
-        block_line(out, run.tally, run.first)?;
-        all = all + run.tally;
-        if run.broken {
+        block_line(out, tally, first)?;
+        all = all + tally;
+        if tally.cases < n as u64 {
             return Ok((all, true));
         }
     }

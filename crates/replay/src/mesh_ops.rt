@@ -4,10 +4,9 @@ use shape::mesh::{Lanes, MeshCounts, surface_mesh};
 use shape::strip::no_area;
 use stored::answer::Answer;
 use stored::lent::{BLANK, BLANK_WORD, Case};
-use stored::numbers::point;
 
-pub fn no_area_case(given: &[u32], answer: &mut Answer) -> Option<()> {
-    answer.test(no_area(point(given, 0), point(given, 3), point(given, 6)));
+pub fn no_area_case(case: &mut Case, answer: &mut Answer) -> Option<()> {
+    answer.test(no_area(case.point(), case.point(), case.point()));
     Some(())
 }
 
@@ -42,13 +41,12 @@ fn strips(case: &mut Case, lanes: Lanes, answer: &mut Answer) -> Option<()> {
     Some(())
 }
 
-pub fn surface_case(given: &[u32], answer: &mut Answer) -> Option<()> {
+pub fn surface_case(case: &mut Case, answer: &mut Answer) -> Option<()> {
     let mut points = [0.0f32; 110600];
     let mut tangents = [0.0f32; 12300];
     let mut widths = [0.0f32; 4100];
     let mut banks = [0.0f32; 8200];
     let mut records = [0u32; 10260];
-    let mut case = Case::new(given, 0);
     let lanes = Lanes {
         points: case.list(&mut points)?,
         tangents: case.list(&mut tangents)?,
@@ -56,5 +54,5 @@ pub fn surface_case(given: &[u32], answer: &mut Answer) -> Option<()> {
         banks: case.list(&mut banks)?,
         records: case.list(&mut records)?,
     };
-    strips(&mut case, lanes, answer)
+    strips(case, lanes, answer)
 }

@@ -13,17 +13,15 @@ fn put_outline(answer: &mut Answer, o: Outline) {
     answer.test(o.turned);
 }
 
-pub fn ring_case(given: &[u32], answer: &mut Answer) -> Option<()> {
+pub fn ring_case(case: &mut Case, answer: &mut Answer) -> Option<()> {
     let mut segments = [0u32; 520];
     let mut points = [0.0f32; 12300];
     let mut line = [BLANK; 12300];
-    let mut case = Case::new(given, 0);
     let boundary = Boundary {
         segments: case.list(&mut segments)?,
         points: case.list(&mut points)?,
     };
-    let room = case.room(12300)?;
-    let line = &mut line[..room];
+    let line = &mut line[..case.room(12300)?];
     match ring(boundary, line) {
         Ok(o) => put_outline(answer, o),
         Err(r) => put_refusal(answer, r),

@@ -24,10 +24,9 @@ fn put_verdict(answer: &mut Answer, verdict: Result<(), MeshError>) {
     }
 }
 
-pub fn validate_case(given: &[u32], answer: &mut Answer) -> Option<()> {
+pub fn validate_case(case: &mut Case, answer: &mut Answer) -> Option<()> {
     let mut memory = MeshMemory::new();
-    let mut case = Case::new(given, 0);
-    let mesh = memory.mesh(&mut case)?;
+    let mesh = memory.mesh(case)?;
     match validate(mesh) {
         Ok(verdict) => put_verdict(answer, verdict),
         Err(r) => put_refusal(answer, r),

@@ -24,6 +24,12 @@ pub bounds : (p e : ℕ) → Shaped p e → Bounds p e
 bounds p e s = rw (s.digits, s.largest) at (bounds_of s.format)
 
 -- the numbers p and e that the code has from the format's type
+-- p and e are the format's numbers
+pub record Sized (f : Format) (p e : ℕ) : Type 0 where
+  pub digits : prec f ≡ p
+  pub largest : emax f ≡ e
+  pub within : Bounds p e
+
 module _ {f : Format} {P E s i : ℕ} (o : LaidOut f P E s i) {p e : ℕ} (u : p ≡ P) (w : e ≡ E) where
   pub prec_is : prec f ≡ p
   prec_is = sym (u ∙ o.digits_is)
@@ -36,6 +42,9 @@ module _ {f : Format} {P E s i : ℕ} (o : LaidOut f P E s i) {p e : ℕ} (u : p
 
   pub known : Bounds p e
   known = bounds p e shaped
+
+  pub sized : Sized f p e
+  sized = record { digits = prec_is; largest = emax_is; within = known }
 
 width_of : (f : Format) → (prec f ≡ 24 → ⊥) → prec f ≡ 53
 width_of binary32 n = absurd (n refl)

@@ -3,7 +3,6 @@ use Rattle.std.proofs.Common.{◌≡◌, ℕ, zero, suc, ◌+◌, ◌-◌, ◌*�
 use Rattle.std.specs.Prelude.{Ok, Err}
 use native.Mathlib.Decide.{dec_lt}
 use lib.Ieee.{Float, lt, le}
-use lib.ListN.{get_or-append}
 use lib.Seq.{take-length, get_or-append_seam}
 use Rattle.rounding.specs.Extremes.{max_of}
 use Rattle.rounding.specs.Thresholds.{milli, tenth}
@@ -22,7 +21,7 @@ use Rattle.shape.specs.Lists.{longer, uneven, point_at, start_of, end_of, last_e
 use Rattle.shape.specs.Outline.{reach_of, place_from, point_from, first_of, final_of, solid_at, solid, solids, segment_of, segment_at, origin, head_of, last_of, is_new, added, extended, turns_first, turns_later, turns_at, gap_at, Line, joined, closing, closed_up, side_at, area_to, reversed_at, reversed, flat, widest, whole_line, dropped_of, ring_of, turned_of, result_of, outline_of, outline_limits, outline_ragged, outline_fault, short_fault, outline_answer, Outlines}
 use Rattle.shape.specs.OutlineSteps.{SoundLists, Holds, Skips, Adds}
 use Rattle.shape.specs.OutlineJoins.{Joins}
-use Rattle.shape.proofs.Laws.Gather.{gather_next, gather_fits, gather_even}
+use Rattle.shape.proofs.Laws.Gather.{gather_next, gather_fits, gather_even, gather_at}
 use Rattle.shape.proofs.Laws.Lists.{Sound, sound}
 use Rattle.shape.proofs.Laws.Memory.{sets_append, sets_front, take_sets_front}
 
@@ -138,16 +137,8 @@ module _ (end : Point) (gap : Float) (s : List Float) (far near : Float) (p : fa
 
 -- ---- the segments that are not empty
 
-gather_at : {A : Type 0} (f : ℕ → List A) (k m : ℕ) (x d : A) → k < m → f k ≡ x ∷ [] → get_or (gather f m) (length (gather f k)) d ≡ x
-unfolding gather
-gather_at f k zero x d h e = absurd (omega arith)
-gather_at f k (suc m) x d h e =
-    elim (dec_lt k m) [
-      | yes p ↦
-          get_or-append (gather f m) (f m) d (length (gather f k)) (omega (arith, gather_fits f k m p, ap length e))
-          ∙ gather_at f k m x d p e
-      | no p ↦ let z : m ≡ k = omega arith in rw (z, e) (get_or-append_seam (gather f k) x [] d)
-    ]
+gather_one : {A : Type 0} (f : ℕ → List A) (k m : ℕ) (x d : A) → k < m → f k ≡ x ∷ [] → get_or (gather f m) (length (gather f k)) d ≡ x
+gather_one f k m x d h e = rw (add-zero (length (gather f k)), e) at (gather_at f m k 0 d h (omega (arith, ap length e)))
 
 module _ (ws : List ℕ) (k : ℕ) where
   pub solid_more : start_of 2 0 ws k < end_of 2 0 ws k → length (solid ws (k + 1)) ≡ suc (length (solid ws k))
@@ -173,7 +164,7 @@ module _ (ws : List ℕ) (k : ℕ) where
       → segment_at ws xs (length (solid ws k)) ≡ segment_of ws xs k
   unfolding segment_at solid
   segment_here xs h l =
-      rw (gather_at (solid_at ws) k (length ws / 2) k 0 h (solid_one l))
+      rw (gather_one (solid_at ws) k (length ws / 2) k 0 h (solid_one l))
     where
       solid_one : start_of 2 0 ws k < end_of 2 0 ws k → solid_at ws k ≡ k ∷ []
       solid_one p = rw (lt-ltb (start_of 2 0 ws k) (end_of 2 0 ws k) p)
@@ -201,12 +192,6 @@ module _ (ws : List ℕ) (xs : List Float) where
       → (b ≡ turns_at ws xs i end) × (g ≡ gap_at ws xs i end gap)
   turn_later_at i s end gap b g is z r = (rw (turns_suc i end z, ← is) r.0, rw (gap_suc i end gap z, ← is) r.1)
 
-  module _ (k : ℕ) (h : k < length ws / 2) (l : start_of 2 0 ws k < end_of 2 0 ws k) (i : ℕ) (e : i ≡ length (solid ws k)) (s : List Float) (is : s ≡ segment_of ws xs k) where
-    pub at_later : (end : Point) (gap : Float) (b : Bool) (g : Float) → (i ≡ 0 → ⊥)
-        → (b ≡ turns_later end s) × (g ≡ max_of gap (reach_of end (point_from (turns_later end s) s 0)))
-        → (b ≡ turns_at ws xs i end) × (g ≡ gap_at ws xs i end gap)
-    at_later end gap b g = turn_later_at i s end gap b g (is ∙ sym (rw e (segment_here ws k xs h l)))
-
   -- the first segment, with no second, and with one
   pub turn_alone : (end : Point) → solids ws ≡ 1 → false ≡ turns_at ws xs 0 end
   unfolding turns_at
@@ -216,26 +201,11 @@ module _ (ws : List ℕ) (xs : List Float) where
   unfolding turns_at
   turn_followed s t end a b two = rw (lt-ltb 1 (length (solid ws (length ws / 2))) two, ← a, ← b)
 
-  module _ (k : ℕ) (h : k < length ws / 2) (l : start_of 2 0 ws k < end_of 2 0 ws k) (e : length (solid ws k) ≡ 0) where
-    pub alone : (end : Point) → length (solid ws (length ws / 2)) ≡ length (solid ws (k + 1)) → false ≡ turns_at ws xs 0 end
-    alone end n = turn_alone end (n ∙ solid_more ws k l ∙ ap suc e)
-
-    pub followed : (end : Point) (next : ℕ) → next < length ws / 2 → start_of 2 0 ws next < end_of 2 0 ws next
-        → length (solid ws next) ≡ length (solid ws (k + 1))
-        → turns_first (segment_of ws xs k) (segment_of ws xs next) ≡ turns_at ws xs 0 end
-    followed end next m t n =
-        let one : length (solid ws next) ≡ 1 = n ∙ solid_more ws k l ∙ ap suc e in
-        turn_followed (segment_of ws xs k) (segment_of ws xs next) end (sym (rw e at (segment_here ws k xs h l)))
-        (sym (rw one at (segment_here ws next xs m t))) (omega (arith, solid_fits ws next (length ws / 2) m t, one))
-
 -- ---- a segment more
 
 module _ (ws : List ℕ) (xs blank : List Float) (k : ℕ) {m : List Float} {j : Joined} (at : Joins ws xs blank m k j) where
   pub join_passed : length (solid ws (k + 1)) ≡ length (solid ws k) → Joins ws xs blank m (k + 1) j
   join_passed e = record { holds = rw e at.holds; solids = rw e at.solids; gap = rw e at.gap }
-
-  pub join_none : end_of 2 0 ws k ≤ start_of 2 0 ws k → Joins ws xs blank m (k + 1) j
-  join_none h = join_passed (solid_same ws k h)
 
   module _ {m' : List Float} (s : List Float) (back : Bool) (gap : Gap) (h : RingSoFar) where
     pub join_next : length (solid ws (k + 1)) ≡ length (solid ws k) + 1 → s ≡ segment_at ws xs (length (solid ws k))

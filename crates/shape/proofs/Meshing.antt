@@ -36,7 +36,8 @@ use Rattle.shape.specs.SurfaceMesh.{
 use Rattle.shape.specs.MeshSteps.{lengths_at, Grown, Topped, Enough, Sizes, Room, Wrote, Written, Fitting}
 use Rattle.shape.proofs.Laws.Gather.{any_none, gather_next, gather_fits, gather_most}
 use Rattle.shape.proofs.Laws.Memory.{put_none, put_length, put_turn, put_front}
-use Rattle.shape.proofs.Laws.MeshMemory.{Fits, first_fine, both_fine, room_fits, fits_room, mesh_left, mesh_stays}
+use Rattle.shape.proofs.Laws.MeshMemory.{Fits, room_fits, fits_room, mesh_left, mesh_stays}
+use Rattle.shape.proofs.Laws.Refusal.{passed, else_passed, stops_first, goes_then}
 use Rattle.shape.proofs.Laws.SurfaceMesh.{normals_match}
 use Rattle.shape.proofs.Strips.{vertices_length, segment_length, cond_few}
 
@@ -89,9 +90,9 @@ empty [] h = refl
 empty (x ∷ xs) h = absurd (omega arith)
 
 -- a lane that has none leaves all as it is
-pub wrote_none : (l : Lane) (id : ℕ) (at : At) (v n : List Float) (i s : List ℕ) → length (kept l) ≡ 0 → Wrote l id at at v v n n i i s s
+pub wrote_none : (l : Lane) {id : ℕ} {at : At} {v n : List Float} {i s : List ℕ} → length (kept l) ≡ 0 → Wrote l id at at v v n n i i s s
 unfolding vertices_of normals_of indices_of span_of gather
-wrote_none l id at v n i s h =
+wrote_none l {id} {at} {v} {n} {i} {s} h =
     let e = empty (kept l) h in
     record {
       vertices = subst (λ (ks : List ℕ). Put v v at.floats (vertices_of l ks) at.floats) (sym e) (put_none v at.floats);
@@ -101,7 +102,7 @@ wrote_none l id at v n i s h =
     }
 
 -- a strip, where ks are the kept points
-module _ (l : Lane) (at : At) (v n : List Float) (i s : List ℕ) (room : Room l at v n i s) (ks : List ℕ) (e : ks ≡ kept l) where
+module _ {l : Lane} {at : At} {v n : List Float} {i s : List ℕ} (room : Room l at v n i s) {ks : List ℕ} (e : ks ≡ kept l) where
   pub ribs_room : (at.floats + 6 * length ks ≤ length v) × (at.floats + 6 * length ks ≤ length n) × (at.floats / 3 + 2 * length ks < 4294967290)
   ribs_room = rw e (omega (arith, vertices_length l (kept l), room.vertices, room.normals, room.few_floats))
 
@@ -117,7 +118,7 @@ module _ (l : Lane) (at : At) (v n : List Float) (i s : List ℕ) (room : Room l
       let five : length (span_of (length (kept l)) id 0 0 0 0) ≡ 5 = ap length (span_some (length (kept l)) id 0 0 0 0 (rw e at some)) in
       omega (arith, room.few_floats, room.few_index, room.spans id 0 0 0 0)
 
-module _ (l : Lane) (at : At) (ks : List ℕ) (e : ks ≡ kept l) where
+module _ (l : Lane) (at : At) {ks : List ℕ} (e : ks ≡ kept l) where
   pub wrote : (id f j w : ℕ) → (length ks ≡ 0 → ⊥) → {v v' n n' : List Float} {i i' s s' : List ℕ}
       → Put v v' at.floats (vertices_of l ks) f → Put n n' at.floats (normals_of l ks) f
       → Put i i' at.index (indices_of (at.floats / 3) l ks) j
@@ -271,9 +272,9 @@ module _ (g : Given) (k : ℕ) (at : At) {v v₁ n n₁ : List Float} {i i₁ s 
 pub few_lanes : (g : Given) → input_fault g ≡ fine → (lanes_of g ≤ 1024) × (any (run_long 10 1 g.lanes 4096) (lanes_of g) ≡ false)
 unfolding input_fault lane_limits longer
 few_lanes g e =
-    let a = first_fine _ _ _ _ (both_fine (lane_limits g.lanes) (lane_ragged g) e).0 in
-    let b = first_fine _ _ _ _ (first_fine _ _ _ _ (first_fine _ _ _ _ a.1).1).1 in
-    let h : length g.lanes ≤ 10 * 1024 = ltb-false (10 * 1024) (length g.lanes) (first_fine _ _ _ _ b.1).0 in
+    let a = passed _ _ _ _ (else_passed (lane_limits g.lanes) (lane_ragged g) e).0 in
+    let b = passed _ _ _ _ (passed _ _ _ _ (passed _ _ _ _ a.1).1).1 in
+    let h : length g.lanes ≤ 10 * 1024 = ltb-false (10 * 1024) (length g.lanes) (passed _ _ _ _ b.1).0 in
     (omega arith, a.0)
 
 pub short_lane : (g : Given) → input_fault g ≡ fine → (k : ℕ) → k < lanes_of g → run_long 10 1 g.lanes 4096 k ≡ false
@@ -322,15 +323,15 @@ written_sizes g r w =
       word = w.spans.ends ∙ zero-add (length (gather (lane_span g) (lanes_of g)));
     }
 
--- a call that is not turned back
-module _ (g : Given) (v n : List Float) (i s : List ℕ) (e : fine ≡ call_fault g (lengths_of (mesh_lists v n i s))) where
-  pub input_fine : input_fault g ≡ fine
-  unfolding call_fault
-  input_fine = (both_fine (input_fault g) (mesh_room (mesh_of g) (mesh_lists v n i s)) (sym e)).0
+-- a call that is not turned back: its lanes are sound, and its mesh has room
+pub admitted : (g : Given) (lent : Lengths) → input_fault g ≡ fine → found (Ok tt) ≡ room_fault (lengths_of (mesh_of g)) lent → fine ≡ call_fault g lent
+unfolding call_fault found
+admitted g lent e h = goes_then (sym e) h
 
+module _ (g : Given) (v n : List Float) (i s : List ℕ) (e : fine ≡ call_fault g (lengths_of (mesh_lists v n i s))) where
   all_fits : Fits (lengths_of (mesh_of g)) (lengths_of (mesh_lists v n i s))
   unfolding call_fault
-  all_fits = room_fits _ _ (both_fine (input_fault g) (mesh_room (mesh_of g) (mesh_lists v n i s)) (sym e)).1
+  all_fits = room_fits _ _ (else_passed (input_fault g) (mesh_room (mesh_of g) (mesh_lists v n i s)) (sym e)).1
 
   pub fitting : Fitting g (lanes_of g) v n i s
   unfolding mesh_of
@@ -356,8 +357,18 @@ module _ (g : Given) (v n : List Float) (i s : List ℕ) (e : fine ≡ call_faul
       let t : taken c ≡ answer_of g (mesh_lists v n i s) = ap taken (k ∙ ap counts_of (all_lengths g r (written_sizes g r w))) ∙ all_taken in
       (t, mesh_left (mesh_of g) t w.vertices w.normals w.indices w.spans all_fits)
 
--- a call that is
-pub turned_back : (g : Given) (before : Mesh) (r : Refusal) → found (Err r) ≡ call_fault g (lengths_of before)
+-- a call that is, for its lanes or for want of room
+turned_back : (g : Given) (before : Mesh) (r : Refusal) → found (Err r) ≡ call_fault g (lengths_of before)
     → (told (Err r) ≡ answer_of g before) × (before ≡ leaves_mesh (answer_of g before) (mesh_of g) before)
 unfolding told answer_of judge found
 turned_back g before r e = let t : told (Err r) ≡ answer_of g before = rw (← e) in (t, mesh_stays (mesh_of g) before t)
+
+module _ (g : Given) (before : Mesh) (r : Refusal) where
+  pub lanes_back : found (Err r) ≡ input_fault g → (told (Err r) ≡ answer_of g before) × (before ≡ leaves_mesh (answer_of g before) (mesh_of g) before)
+  unfolding call_fault
+  lanes_back e = turned_back g before r (stops_first r (room_fault (lengths_of (mesh_of g)) (lengths_of before)) e)
+
+  pub room_back : input_fault g ≡ fine → found (Err r) ≡ room_fault (lengths_of (mesh_of g)) (lengths_of before)
+      → (told (Err r) ≡ answer_of g before) × (before ≡ leaves_mesh (answer_of g before) (mesh_of g) before)
+  unfolding call_fault found
+  room_back e h = turned_back g before r (goes_then (sym e) h)

@@ -1,13 +1,14 @@
 -- Distances compared by differences and by sums of squares, with no root taken. Assumes nothing.
 use Rattle.std.proofs.Common.{◌≡◌, ◌*◌, ◌<◌, ◌≤◌, Bool, true, false, cond, T, sym, refl, ap, ◌∙◌, subst, mul-pos, arith, ltb→lt}
 use lib.Ieee.{Float, nan, inf, fin, Format, binary32, binary64, up, down, unlike, add, mul, neg, lt, le, eq, of_bits}
+use lib.Ieee.Bits.{is_true}
 use lib.Ieee.Fits.{up_pos, down_pos}
 use lib.Ieee.Positive.{positive}
 use Rattle.rounding.specs.Extremes.{max_of}
 use Rattle.rounding.specs.Hypot.{squares_of, hypot_of}
 use Rattle.rounding.specs.Root.{sqrt_of}
 use Rattle.rounding.specs.Thresholds.{milli}
-use Rattle.rounding.proofs.Laws.Order.{le→Le, le_refl, le_trans, le_num_left, le_num_right, le_of_eq, le_of_lt, le_of_not_lt, lt→not_le, lt_of_lt_of_le}
+use Rattle.rounding.proofs.Laws.Order.{T_of, le→Le, le_refl, le_trans, le_num_left, le_num_right, le_of_eq, le_of_lt, le_of_not_lt, lt→not_le, lt_of_lt_of_le}
 use Rattle.rounding.specs.Numbers.{IsNum}
 use Rattle.rounding.proofs.Laws.Rounding.{Signed, neg_anti, round_num}
 use Rattle.rounding.proofs.Laws.Products.{mul_num, mul_mono, mul_mono_signed_right}
@@ -58,13 +59,6 @@ not_nearer a b s h = sym (lt_false (rooted_of a) (rooted_of b) (rooted_grows b a
 
 -- ---- the greatest gap
 
-true_of : (b : Bool) → T b → b ≡ true
-true_of true h = refl
-true_of false h = absurd h
-
-t_of : {b : Bool} → b ≡ true → T b
-t_of e = subst T (sym e) tt
-
 pick : (b : Bool) (x y : Float) → T b → cond b x y ≡ x
 pick true x y h = refl
 pick false x y h = absurd h
@@ -92,23 +86,23 @@ rooted_nan = refl
 -- a gap covers a root that is one more, with its squares, and that of no more squares
 module _ (gap : Gap) (s : Float) where
   pub covers_least : lt gap.squares s ≡ true → le nought s ≡ true
-  covers_least h = true_of (le nought s) (le_trans nought gap.squares s (t_of gap.least) (le_of_lt gap.squares s (t_of h)))
+  covers_least h = is_true (le nought s) (le_trans nought gap.squares s (T_of gap.least) (le_of_lt gap.squares s (T_of h)))
 
   pub covers_under : (r : Float) → lt gap.squares s ≡ true → r ≡ max_of gap.root (rooted_of s) → le (rooted_of s) r ≡ true
   covers_under r h e =
-      true_of (le (rooted_of s) r) (rw e ((max_picks gap.root (rooted_of s)).right (rooted_num s (t_of (covers_least h)))))
+      is_true (le (rooted_of s) r) (rw e ((max_picks gap.root (rooted_of s)).right (rooted_num s (T_of (covers_least h)))))
 
   not_above : T (le nought s) → T (le s gap.squares) → max_of gap.root (rooted_of s) ≡ gap.root
   not_above n h =
-      max_left gap.root (rooted_of s) (le_trans (rooted_of s) (rooted_of gap.squares) gap.root (rooted_grows s gap.squares n h) (t_of gap.under))
+      max_left gap.root (rooted_of s) (le_trans (rooted_of s) (rooted_of gap.squares) gap.root (rooted_grows s gap.squares n h) (T_of gap.under))
 
 pub covers_same : (gap : Gap) (s : Float) → Squares s → lt gap.squares s ≡ false → gap.root ≡ max_of gap.root (rooted_of s)
 unfolding Squares
 covers_same gap nan q h = sym (ap (max_of gap.root) rooted_nan ∙ max_nan gap.root)
 covers_same gap (inf s) q h =
-    sym (not_above gap (inf s) (q tt) (le_of_not_lt gap.squares (inf s) (le_num_right nought gap.squares (t_of gap.least)) tt h))
+    sym (not_above gap (inf s) (q tt) (le_of_not_lt gap.squares (inf s) (le_num_right nought gap.squares (T_of gap.least)) tt h))
 covers_same gap (fin s m e) q h =
-    sym (not_above gap (fin s m e) (q tt) (le_of_not_lt gap.squares (fin s m e) (le_num_right nought gap.squares (t_of gap.least)) tt h))
+    sym (not_above gap (fin s m e) (q tt) (le_of_not_lt gap.squares (fin s m e) (le_num_right nought gap.squares (T_of gap.least)) tt h))
 
 -- ---- a difference of at least 0.002
 
@@ -174,7 +168,7 @@ enough x y s t a b h k p =
     let y² = mul binary64 y y in
     let n = sum_num binary64 s t a b in
     let m = sum_num binary64 x² y² (le_trans nought s x² a h) (le_trans nought t y² b k) in
-    true_of (lt milli (hypot_of x y))
+    is_true (lt milli (hypot_of x y))
     (lt_of_lt_of_le milli (rooted_of (add binary64 s t)) (hypot_of x y) p
     (rooted_grows (add binary64 s t) (squares_of x y) (sum_least binary64 s t a b n) (add_mono binary64 s x² t y² h k n m)))
 

@@ -1,5 +1,6 @@
 -- Laws behind the height in a junction: the lines around a square, the square itself, the squares that are tried, and the cases of the height. Assumes nothing.
-use Rattle.std.proofs.Common.{◌≡◌, ℕ, ◌+◌, ◌-◌, ◌*◌, ◌<◌, ◌≤◌, Bool, true, false, ◌&&◌, ◌||◌, T, eqb, List, length, ℤ, refl, ap, ◌∙◌, arith, le-ltb, lt-ltb, Some, None}
+use Rattle.std.proofs.Common.{◌≡◌, ℕ, ◌+◌, ◌-◌, ◌*◌, ◌<◌, ◌≤◌, Bool, true, false, ◌&&◌, T, eqb, List, length, ℤ, refl, ap, ◌∙◌, arith, le-ltb, lt-ltb, Some, None}
+use Rattle.std.proofs.Math.Bool.{or-true}
 use lib.IntN.{pred_ℤ, sub_ℕ}
 use lib.Ieee.{Float, nan, inf, fin, le, eq, ne, neg, is_nan, to_signed}
 use Rattle.rounding.proofs.Laws.Order.{T_of, not-T-of, nan_of_differs}
@@ -107,10 +108,6 @@ module _ (f : ℤ → Float → Spot) (i : ℤ) (part : Float) where
   unfolding tried_at or_spot
   tried_second {r} e g k = rw (e, g) k
 
-  pub tried_between : {r : Spot} → eq part 0d ≡ false → r ≡ f i part → r ≡ tried_at f i part
-  unfolding tried_at
-  tried_between e k = rw e k
-
 pub tried_below : (f : ℤ → Float → Spot) (j : ℕ) (part : Float) {r : Spot} → 0 < j → eq part 0d ≡ true → f (sub_ℕ j 2048) 0d ≡ None → r ≡ f (sub_ℕ (j - 1) 2048) 1d → r ≡ tried_at f (sub_ℕ j 2048) part
 tried_below f j part h e g k = tried_second f (sub_ℕ j 2048) part e g (k ∙ ap (λ (l : ℤ). f l 1d) (last_line j 2048 h))
 
@@ -149,10 +146,6 @@ and_both : (a b : Bool) → T (a && b) → T a × T b
 and_both true b h = (tt, h)
 and_both false b h = absurd h
 
-or_true : (b : Bool) → (b || true) ≡ true
-or_true true = refl
-or_true false = refl
-
 module _ (g : ElevationGrid) (rows : List ℕ) (left right : List Float) (s t : Float) where
   pub spacing_nan : ne g.spacing g.spacing ≡ true → None ≡ height_of g rows left right s t
   unfolding height_of
@@ -160,7 +153,7 @@ module _ (g : ElevationGrid) (rows : List ℕ) (left right : List Float) (s t : 
 
   pub spacing_low : le g.spacing 0d ≡ true → None ≡ height_of g rows left right s t
   unfolding height_of
-  spacing_low e = rw (e, or_true (is_nan g.spacing))
+  spacing_low e = rw (e, or-true (is_nan g.spacing))
 
   pub no_rows : eqb (row_count rows) 0 ≡ true → ne g.spacing g.spacing ≡ false → le g.spacing 0d ≡ false → None ≡ height_of g rows left right s t
   unfolding height_of
@@ -192,7 +185,3 @@ module _ (rows : List ℕ) (left right : List Float) (u v : Float) where
     pub off_columns : within (neg (count most)) v (count most) ≡ false → None ≡ coords_of rows left right u v
     unfolding coords_of
     off_columns f = rw (e, ← w, f)
-
-    pub on_both : within (neg (count most)) v (count most) ≡ true → on_grid (value_of rows left right) u v ≡ coords_of rows left right u v
-    unfolding coords_of
-    on_both f = rw (e, ← w, f)

@@ -1,16 +1,17 @@
 -- Laws behind the check of a grid's lists: what a pass over the rows has seen, and what is found of them. Assumes nothing.
 use Rattle.std.proofs.Common.{◌≡◌, ℕ, ◌+◌, ◌-◌, ◌*◌, ◌<◌, ◌≤◌, max, Bool, true, false, cond, not, ◌||◌, ◌⊎◌, List, length, sym, refl, ap, ◌∙◌, inl, inr, add-one, arith, ltb-false, Option, Some, None, Result, Ok, Err}
+use Rattle.std.proofs.Math.Bool.{or-true}
 use Rattle.std.specs.Prelude.{Float}
 use borrow.Author.Tests.{not-true, not-false}
 use Rattle.shape.specs.declared.elevation.GridFault.{GridFault}
 use Rattle.shape.specs.declared.elevation.GridFault.TheVariants.{Long, Ragged}
 use Rattle.shape.specs.Gather.{any}
-use Rattle.shape.specs.Refusal.{fine}
+use Rattle.shape.specs.Refusal.{Answer, number_of, place_of, fine, refuse, judge, told}
 use Rattle.shape.specs.Lists.{max_ring, max_rows, longer, uneven, word_of, last_end, run_bad, run_long}
 use Rattle.shape.proofs.Laws.Gather.{any_next, any_some, or_left, or_right}
 use Rattle.shape.proofs.Laws.Refusal.{passed, else_passed}
-use Rattle.shape.specs.Elevation.{row_of, row_count, longest, widest_of, grid_long, grid_ragged, grid_check}
-use Rattle.shape.specs.ElevationSteps.{odd_run, odd_runs, pass_of, fault_of, Limits}
+use Rattle.shape.specs.Elevation.{row_of, row_count, longest, widest_of, grid_long, grid_ragged, grid_fault, grid_check}
+use Rattle.shape.specs.ElevationSteps.{odd_run, odd_runs, pass_of, fault_of, refusal_of, Limits}
 use Rattle.shape.specs.JunctionMesh.{Ground, ground_of, ground_limits, ground_ragged, ground_input}
 use Rattle.shape.specs.declared.elevation.ElevationGrid.{ElevationGrid}
 use Rattle.shape.specs.declared.elevation.Heights.{Heights}
@@ -28,10 +29,6 @@ pub record Seen (rows : List ℕ) (l r most last_left last_right k : ℕ) : Type
   pub most_is : most ≡ max (longest 2 rows k) (longest 4 rows k)
   pub left_end : last_left ≡ last_end 6 2 rows k
   pub right_end : last_right ≡ last_end 6 4 rows k
-
-or_true : (b : Bool) → (b || true) ≡ true
-or_true true = refl
-or_true false = refl
 
 or_cases : (a b : Bool) → (a || b) ≡ true → (a ≡ true) ⊎ (b ≡ true)
 or_cases true b e = inl refl
@@ -70,7 +67,7 @@ module _ (rows : List ℕ) (l r : ℕ) where
     unfolding odd_runs
     odd_left m n e f =
         elim (or_cases (run_bad 6 2 rows l k) (run_long 6 2 rows 1024 k) (not-false (run_bad 6 2 rows l k || run_long 6 2 rows 1024 k) (sym (left_test e) ∙ f))) [
-          | inl g ↦ rw (any_some (run_bad 6 2 rows l) k m n g) (or_true (any (run_long 6 2 rows 1024) m || any (run_long 6 4 rows 1024) m))
+          | inl g ↦ rw (any_some (run_bad 6 2 rows l) k m n g) (or-true (any (run_long 6 2 rows 1024) m || any (run_long 6 4 rows 1024) m))
           | inr g ↦ rw (any_some (run_long 6 2 rows 1024) k m n g)
         ]
 
@@ -79,9 +76,9 @@ module _ (rows : List ℕ) (l r : ℕ) where
     odd_right m n e f =
         elim (or_cases (run_bad 6 4 rows r k) (run_long 6 4 rows 1024 k) (not-false (run_bad 6 4 rows r k || run_long 6 4 rows 1024 k) (sym (right_test e) ∙ f))) [
           | inl g ↦
-              rw (any_some (run_bad 6 4 rows r) k m n g, or_true (any (run_bad 6 2 rows l) m))
-              (or_true (any (run_long 6 2 rows 1024) m || any (run_long 6 4 rows 1024) m))
-          | inr g ↦ rw (any_some (run_long 6 4 rows 1024) k m n g, or_true (any (run_long 6 2 rows 1024) m))
+              rw (any_some (run_bad 6 4 rows r) k m n g, or-true (any (run_bad 6 2 rows l) m))
+              (or-true (any (run_long 6 2 rows 1024) m || any (run_long 6 4 rows 1024) m))
+          | inr g ↦ rw (any_some (run_long 6 4 rows 1024) k m n g, or-true (any (run_long 6 2 rows 1024) m))
         ]
 
     pub seen_next : {t u : Bool} {new : ℕ} → t ≡ not (odd_run here.left a l) → t ≡ true → u ≡ not (odd_run here.right b r) → u ≡ true
@@ -198,6 +195,12 @@ module _ (rows : List ℕ) (l r : ℕ) where
   pub says_widest : (w : ℕ) → Ok w ≡ grid_check rows l r → ((grid_long rows ≡ false) × (grid_ragged rows l r ≡ false)) × (w ≡ widest_of rows)
   unfolding grid_check
   says_widest w e = is_widest (grid_long rows) (grid_ragged rows l r) (widest_of rows) w e
+
+  -- a fault that is found, as the refusal of a call
+  pub says_fault : {A : Type 0} (e : GridFault) (after : Answer A) → Err e ≡ grid_check rows l r → told (Err (refusal_of e 0)) ≡ judge (grid_fault rows l r) after
+  unfolding told judge refuse grid_fault refusal_of number_of place_of
+  says_fault Long after e = rw (says_long e)
+  says_fault Ragged after e = let p = says_ragged e in rw (p.0, p.1)
 
 -- lists that are not faulty keep the limits
 pub limits : (rows : List ℕ) (most : ℕ) → grid_long rows ≡ false → most ≡ widest_of rows → Limits rows most

@@ -1,5 +1,6 @@
 -- What the two scans of the verdict see: numbers that are all finite, a triangle of three indices by its tests, and a short one. Assumes nothing.
-use Rattle.std.proofs.Common.{◌≡◌, ℕ, ◌+◌, ◌*◌, ◌/◌, ◌<◌, ◌≤◌, Bool, true, false, cond, ◌&&◌, leb, List, length, get_or, Result, Ok, Err, sym, refl, ◌∙◌, arith, below_more, lt-ltb, eq-eqb, ne_eqb, le-leb}
+use Rattle.std.proofs.Common.{◌≡◌, ℕ, ◌+◌, ◌*◌, ◌/◌, ◌%◌, ◌<◌, ◌≤◌, Bool, true, false, cond, not, ◌&&◌, ◌==◌, Option, leb, List, length, get_or, Result, Ok, Err, sym, refl, ◌∙◌, arith, below_more, lt-ltb, eq-eqb, ne_eqb, le-leb}
+use Rattle.std.specs.Bool.{then_some}
 use native.Mathlib.Decide.{dec_lt}
 use borrow.Author.Tests.{lt-leb}
 use lib.Ieee.{Float, nan}
@@ -7,7 +8,7 @@ use lib.Ieee.Scale.{finite}
 use Rattle.vector.specs.Coords.{all_finite, point_finite}
 use Rattle.shape.specs.declared.validate.Flaw.{Flaw}
 use Rattle.shape.specs.declared.validate.Flaw.TheVariants.{Past, Flat}
-use Rattle.shape.specs.Gather.{any, least}
+use Rattle.shape.specs.Gather.{any, IsFirst}
 use Rattle.shape.specs.Lists.{point_at}
 use Rattle.shape.specs.Strip.{no_area}
 use Rattle.shape.specs.Verdict.{FiniteBelow, unsound, flat_or, finding_of, is_faulty, faulty_at, triples_of}
@@ -55,16 +56,21 @@ short_faulty vs is t h =
     let c = get_or is (3 * t + 2) 0 in
     rw (le-leb _ _ h) (short (leb n a) (leb (length is) (3 * t + 1)) (leb n b) a b (cond (leb n c) (Err (Past c)) (flat_or vs a b c)))
 
--- where nothing is wrong with the triangles of three indices, the first with something wrong is the short one, if there is one
-pub whole_least : (vs : List Float) (is : List ℕ) → any (faulty_at vs is) (length is / 3) ≡ false → length is / 3 ≡ least (faulty_at vs is) (triples_of is)
-whole_least vs is e =
+-- where nothing is wrong with the triangles of three indices, the first is the short one, if there is one
+pub first_short : (vs : List Float) (is : List ℕ) {r : Option ℕ} → any (faulty_at vs is) (length is / 3) ≡ false
+    → r ≡ then_some (not (length is % 3 == 0)) (length is / 3) → IsFirst (faulty_at vs is) (triples_of is) r
+first_short vs is g e =
     let f = faulty_at vs is in
     let m = length is / 3 in
+    let h : (k : ℕ) → k < m → f k ≡ false = λ k l. any_none f k m l g in
     elim (dec_lt m (triples_of is)) [
-      | yes p ↦ least_at f (triples_of is) m p (λ j l. any_none f j m l e) (short_faulty vs is m (omega arith))
+      | yes p ↦
+          (let s : (length is % 3 == 0) ≡ false = ne_eqb _ _ (λ z. omega (arith, z)) in
+          rw (e, s) (p, least_at f (triples_of is) m p h (short_faulty vs is m (omega arith))))
       | no p ↦
-          (let s : triples_of is ≡ m = omega arith in
-          rw s (least_none f m (λ j l. any_none f j m l e)))
+          (let s : (length is % 3 == 0) ≡ true = eq-eqb _ _ (omega arith) in
+          let t : triples_of is ≡ m = omega arith in
+          rw (e, s, t) (least_none f m h))
     ]
 
 is_faulty_flat : (x : Bool) → is_faulty (cond x (Err Flat) (Ok tt)) ≡ x

@@ -186,7 +186,7 @@ unfoldable pub or_spot : Spot → Spot → Spot
 or_spot None b = b
 or_spot (Some z) b = Some z
 
--- "Some a whole number the square above is tried first, then the one below": f i x is the height at x between the lines i and i + 1, and the place is `part` past the line i
+-- "At a whole number the square above is tried first, then the one below": f i x is the height at x between the lines i and i + 1, and the place is `part` past the line i
 unfoldable pub tried_at : (ℤ → Float → Spot) → ℤ → Float → Spot
 tried_at f i part = cond (eq part 0d) (or_spot (f i 0d) (f (pred_ℤ i) 1d)) (f i part)
 

@@ -8,6 +8,9 @@ use Rattle.shape.specs.declared.elevation.GridFault.TheVariants.{Long, Ragged}
 use Rattle.shape.specs.Double.{◌⊟◌, double}
 use Rattle.shape.specs.Gather.{any}
 use Rattle.shape.specs.Lists.{max_rows, max_side, run_bad, run_long}
+use Rattle.shape.specs.declared.refusal.Refusal.{Refusal}
+use Rattle.shape.specs.declared.refusal.Refusal.TheVariants.{Oversize}
+use Rattle.shape.specs.declared.refusal.Refusal.TheVariants as told
 use Rattle.shape.specs.Elevation.{row_count, widest_of, floored}
 use Rattle.shape.specs.declared.elevation.Run.{Run}
 use Rattle.shape.specs.declared.elevation.Place.{Place}
@@ -27,6 +30,11 @@ pass_of rows l r = cond (odd_runs rows l r (row_count rows)) None (Some (widest_
 -- the fault of rows that are not all in order
 unfoldable pub fault_of : List ℕ → GridFault
 fault_of rows = cond (any (run_long 6 2 rows max_side) (row_count rows) || any (run_long 6 4 rows max_side) (row_count rows)) Long Ragged
+
+-- the refusal of a call in which the rows are the list given
+unfoldable pub refusal_of : GridFault → ℕ → Refusal
+refusal_of Long rows = Oversize max_rows
+refusal_of Ragged rows = told.Ragged rows
 
 -- what sound lists keep
 pub record Limits (rows : List ℕ) (most : ℕ) : Type 0 where

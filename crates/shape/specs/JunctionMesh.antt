@@ -14,6 +14,7 @@ use Rattle.shape.specs.declared.memory.Lengths.{Lengths}
 use Rattle.shape.specs.declared.elevation.ElevationGrid.{ElevationGrid}
 use Rattle.shape.specs.declared.elevation.Heights.{Heights}
 use Rattle.shape.specs.declared.junction.Ear.{Ear}
+use Rattle.shape.specs.declared.junction.Relief.{Relief}
 use Rattle.shape.specs.Gather.{gather}
 use Rattle.shape.specs.Refusal.{Fault, fine, refuse, or_else, Answer, taken, judge}
 use Rattle.shape.specs.Lists.{max_ring, max_rows, point_at, longer, uneven, Mesh}
@@ -152,6 +153,10 @@ lift_of (Some g) rows left right p = let at = locate_of g p.x p.y in raised_to p
 -- by the heights that are lent
 abbrev pub raise_of : Option ElevationGrid → Heights → Point → Point
 raise_of grid h = lift_of grid h.rows.now h.left.now h.right.now
+
+-- by a grid with its lists
+abbrev pub raised_by : Relief → Point → Point
+raised_by r = raise_of r.grid r.survey.heights
 
 -- ---- the call: ring 0, rows 1, left 2, right 3
 

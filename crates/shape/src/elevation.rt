@@ -32,7 +32,7 @@ ghost use Rattle.shape.specs.Elevation.{
   height_answer,
   height_at_answer,
 };
-ghost use Rattle.shape.specs.ElevationSteps.{odd_run, pass_of, fault_of, Placed, Near, Limits};
+ghost use Rattle.shape.specs.ElevationSteps.{odd_run, pass_of, fault_of, refusal_of, Placed, Near, Limits};
 
 use crate::lists::{MAX_ROWS, MAX_SIDE, Records};
 use crate::refusal::Refusal;
@@ -252,7 +252,7 @@ pub fn row_slopes(line: Line) -> Option<Tilt>
 fn first_of(x: Option<Tilt>) -> Option<f64>
     ensures { result ≡ first_of x }
 {
-    Some(x?.first)
+    x.map(|tilt| tilt.first)
 }
 
 // The slope at the edge's second point.
@@ -260,7 +260,7 @@ fn first_of(x: Option<Tilt>) -> Option<f64>
 fn second_of(x: Option<Tilt>) -> Option<f64>
     ensures { result ≡ second_of x }
 {
-    Some(x?.second)
+    x.map(|tilt| tilt.second)
 }
 
 // ---- the surface over a square
@@ -495,6 +495,19 @@ pub enum GridFault {
     Ragged,
 }
 
+impl GridFault {
+    // The refusal of a call in which the rows are the list given.
+    #[tactic(auto, unfolding(crate::specs::ElevationSteps::refusal_of))]
+    pub(crate) fn refusal(self, rows: usize) -> Refusal
+        ensures { result ≡ refusal_of self rows }
+    {
+        match self {
+            GridFault::Long => Refusal::Oversize(MAX_ROWS),
+            GridFault::Ragged => Refusal::Ragged(rows),
+        }
+    }
+}
+
 // How long a run is.
 fn span(run: Run) -> usize
     ensures { result ≡ run.end - run.start }
@@ -572,11 +585,8 @@ impl<'a> Heights<'a> {
 pub fn height(grid: ElevationGrid, heights: Heights, s: f64, t: f64) -> Result<Option<f64>, Refusal>
     ensures { let h = heights.entry in told result ≡ height_answer grid h.rows.now h.left.now h.right.now s t }
 {
-    match heights.survey() {
-        Err(GridFault::Long) => Err(Refusal::Oversize(MAX_ROWS)),
-        Err(GridFault::Ragged) => Err(Refusal::Ragged(0)),
-        Ok(survey) => Ok(survey.height(grid, s, t)),
-    }
+    let survey = heights.survey().map_err(|fault| fault.refusal(0))?;
+    Ok(survey.height(grid, s, t))
 }
 
 // Where (x, y) is on the reference line: s along it and t to its left.

@@ -5,7 +5,6 @@ ghost use Rattle.shape.specs.Memory.{Put};
 ghost use Rattle.shape.specs.Refusal.{fine, found, told};
 ghost use Rattle.shape.specs.Lists.{max_ring, mesh_lists};
 ghost use Rattle.shape.specs.MeshMemory.{leaves_mesh};
-ghost use Rattle.shape.specs.EarSteps.{Within};
 ghost use Rattle.shape.specs.JunctionMesh.{
   longest_of,
   parts_of,
@@ -18,7 +17,7 @@ ghost use Rattle.shape.specs.JunctionMesh.{
   vertex_count,
   spacing_of,
   raised_to,
-  raise_of,
+  raised_by,
   row_of,
   ear_mesh,
   ears_mesh,
@@ -30,9 +29,9 @@ ghost use Rattle.shape.specs.JunctionMesh.{
   ground_answer,
 };
 
-use crate::ears::{clip, count_up};
+use crate::ears::{Picked, clip, count_up};
 use crate::elevation::{ElevationGrid, GridFault, Heights, Survey, locate};
-use crate::lists::{MAX_RING, MAX_ROWS, whole_point};
+use crate::lists::MAX_RING;
 use crate::memory::{Lengths, put, room_fault};
 use crate::refusal::{Refusal, refuse_if};
 use rounding::count::count;
@@ -48,6 +47,13 @@ pub struct Ear {
     pub b: Point,
     pub c: Point,
     pub n: usize,
+}
+
+// The grid of a junction, if it has one, with its lists, which are not faulty.
+#[derive(Clone, Copy)]
+struct Relief<'a> {
+    grid: Option<ElevationGrid>,
+    survey: Survey<'a>,
 }
 
 // ---- splitting
@@ -73,15 +79,13 @@ fn parts(a: Point, b: Point, c: Point, step: f64) -> usize
 
 // Ear k of a ring.
 #[tactic(auto, unfolding(crate::specs::JunctionMesh::ear_cut))]
-fn ear_at(ring: &[f32], ears: &[u32], k: usize, step: f64) -> Ear
-    requires k_in_ears { 3 * k + 2 < length ears.now }
-    requires ears_in_ring { Within (length ring.now / 3) ears.now }
-    ensures { (result ≡ ear_cut step ring.now ears.now k) × (result.n ≤ 64) }
+fn ear_at(ears: Picked, k: usize, step: f64) -> Ear
+    requires { 3 * k + 2 < length ears.numbers.now }
+    ensures { (result ≡ ear_cut step ears.entry.ring.now ears.entry.numbers.now k) × (result.n ≤ 64) }
 {
-    let at = 3 * k;
-    let a = whole_point(ring, ears[at] as usize);
-    let b = whole_point(ring, ears[at + 1] as usize);
-    let c = whole_point(ring, ears[at + 2] as usize);
+    let a = ears.point(3 * k);
+    let b = ears.point(3 * k + 1);
+    let c = ears.point(3 * k + 2);
     let n = parts(a, b, c, step);
     Ear { a, b, c, n }
 }
@@ -135,14 +139,13 @@ fn push(vertices: &mut [f32], normals: &mut [f32], at: usize, a: Point, b: Point
 // ---- sizes
 
 // How many vertices the triangles of the ears have.
-fn count_vertices(ring: &[f32], ears: &[u32], step: f64) -> usize
-    requires ears_few { length ears.now ≤ 3 * max_ring }
-    requires ears_in_ring { Within (length ring.now / 3) ears.now }
-    ensures { (result ≡ vertex_count step ring.now ears.now) × (result ≤ 12288 * max_ring) }
+fn count_vertices(ears: Picked, step: f64) -> usize
+    requires { length ears.numbers.now ≤ 3 * max_ring }
+    ensures { (result ≡ vertex_count step ears.entry.ring.now ears.entry.numbers.now) × (result ≤ 12288 * max_ring) }
 {
     let mut total: usize = 0;
-    for k in 0..ears.len() / 3 {
-        let n = ear_at(ring, ears, k, step).n;
+    for k in 0..ears.numbers.len() / 3 {
+        let n = ear_at(ears, k, step).n;
         total += 3 * (n * n);
     }
     total
@@ -164,44 +167,36 @@ fn ground_lengths(many: usize) -> Lengths
 
 // ---- the grid
 
-// How far apart the grid's points are: infinitely far where there is no grid.
-#[tactic(auto, unfolding(crate::specs::JunctionMesh::spacing_of))]
-fn spacing_of(grid: Option<ElevationGrid>) -> f64
-    ensures { result ≡ spacing_of grid }
-{
-    match grid {
-        Some(g) => g.spacing,
-        None => f64::INFINITY,
-    }
-}
-
 // A point at a height, if there is one.
 #[tactic(auto, unfolding(crate::specs::JunctionMesh::raised_to))]
 fn raised_to(p: Point, z: Option<f64>) -> Point
     ensures { result ≡ raised_to p z }
 {
-    match z {
-        Some(h) => Point {
-            x: p.x,
-            y: p.y,
-            z: narrow(h),
-        },
-        None => p,
-    }
+    z.map_or(p, |h| Point { z: narrow(h), ..p })
 }
 
-// Point (i, j) of an ear's lattice, at the grid's height where the grid reaches.
-#[tactic(auto, unfolding(crate::specs::JunctionMesh::lift_of))]
-fn lifted(grid: Option<ElevationGrid>, survey: Survey, e: Ear, i: usize, j: usize) -> Point
-    requires { (e.n < 2 ^ 32) × (i < 2 ^ 32) × (j < 2 ^ 32) }
-    ensures { result ≡ raise_of grid survey.entry.heights (lattice e i j) }
-{
-    let p = lattice_point(e, i, j);
-    let Some(g) = grid else {
-        return p;
-    };
-    let at = locate(g, widen(p.x), widen(p.y));
-    raised_to(p, survey.height(g, at.s, at.t))
+impl Relief<'_> {
+    // How far apart the grid's points are: infinitely far where there is no grid.
+    #[tactic(auto, unfolding(crate::specs::JunctionMesh::spacing_of))]
+    fn spacing(self) -> f64
+        ensures { result ≡ spacing_of self.entry.grid }
+    {
+        self.grid.map_or(f64::INFINITY, |grid| grid.spacing)
+    }
+
+    // Point (i, j) of an ear's lattice, at the grid's height where the grid reaches.
+    #[tactic(auto, unfolding(crate::specs::JunctionMesh::lift_of))]
+    fn lifted(self, e: Ear, i: usize, j: usize) -> Point
+        requires { (e.n < 2 ^ 32) × (i < 2 ^ 32) × (j < 2 ^ 32) }
+        ensures { result ≡ raised_by self.entry (lattice e i j) }
+    {
+        let p = lattice_point(e, i, j);
+        let Some(g) = self.grid else {
+            return p;
+        };
+        let at = locate(g, widen(p.x), widen(p.y));
+        raised_to(p, self.survey.height(g, at.s, at.t))
+    }
 }
 
 // ---- the mesh
@@ -209,8 +204,7 @@ fn lifted(grid: Option<ElevationGrid>, survey: Survey, e: Ear, i: usize, j: usiz
 // Row i of an ear's triangles, from `from` on. Two points are carried on from each pair of triangles to
 // the next; the last triangle of a row stands alone.
 fn put_row(
-    grid: Option<ElevationGrid>,
-    survey: Survey,
+    relief: Relief,
     e: Ear,
     i: usize,
     vertices: &mut [f32],
@@ -219,71 +213,62 @@ fn put_row(
 ) -> usize
     requires { let to = from + 18 * (e.n - i) in
         (i < e.n) × (e.n ≤ 64) × (to ≤ length vertices.old + 9) × (to ≤ length normals.old + 9) }
-    ensures vertices_put { let lift = raise_of grid survey.entry.heights in
+    ensures vertices_put { let lift = raised_by relief.entry in
         Put vertices.old vertices.new from (row_of corner_coords (λ (x y : ℕ). lift (lattice e x y)) e.n i) result }
-    ensures normals_put { let lift = raise_of grid survey.entry.heights in
+    ensures normals_put { let lift = raised_by relief.entry in
         Put normals.old normals.new from (row_of face_normals (λ (x y : ℕ). lift (lattice e x y)) e.n i) result }
 {
     let n = e.n;
     let mut at = from;
-    let mut p = lifted(grid, survey, e, i, 0);
-    let mut q = lifted(grid, survey, e, i + 1, 0);
+    let mut p = relief.lifted(e, i, 0);
+    let mut q = relief.lifted(e, i + 1, 0);
     for j in 1..n - i {
-        let r = lifted(grid, survey, e, i, j);
-        let s = lifted(grid, survey, e, i + 1, j);
+        let r = relief.lifted(e, i, j);
+        let s = relief.lifted(e, i + 1, j);
         let next = push(vertices, normals, at, p, q, r);
         at = push(vertices, normals, next, q, s, r);
         p = r;
         q = s;
     }
-    let r = lifted(grid, survey, e, i, n - i);
+    let r = relief.lifted(e, i, n - i);
     push(vertices, normals, at, p, q, r)
 }
 
 // The triangles of an ear, from `from` on.
 fn put_split(
-    grid: Option<ElevationGrid>,
-    survey: Survey,
+    relief: Relief,
     e: Ear,
     vertices: &mut [f32],
     normals: &mut [f32],
     from: usize,
 ) -> usize
     requires { (e.n ≤ 64) × (from + 9 * (e.n * e.n) ≤ length vertices.old) × (from + 9 * (e.n * e.n) ≤ length normals.old) }
-    ensures vertices_put { Put vertices.old vertices.new from (ear_mesh corner_coords (raise_of grid survey.entry.heights) e) result }
-    ensures normals_put { Put normals.old normals.new from (ear_mesh face_normals (raise_of grid survey.entry.heights) e) result }
+    ensures vertices_put { Put vertices.old vertices.new from (ear_mesh corner_coords (raised_by relief.entry) e) result }
+    ensures normals_put { Put normals.old normals.new from (ear_mesh face_normals (raised_by relief.entry) e) result }
 {
     let mut at = from;
     for i in 0..e.n {
-        at = put_row(grid, survey, e, i, vertices, normals, at);
+        at = put_row(relief, e, i, vertices, normals, at);
     }
     at
 }
 
 // The triangles of all ears.
-fn put_ears(
-    ring: &[f32],
-    ears: &[u32],
-    grid: Option<ElevationGrid>,
-    survey: Survey,
-    vertices: &mut [f32],
-    normals: &mut [f32],
-) -> usize
-    requires ears_in_ring { Within (length ring.now / 3) ears.now }
-    requires room { let many = vertex_count (spacing_of grid) ring.now ears.now in
-        (length ears.now ≤ 3 * max_ring) × (3 * many ≤ length vertices.old) × (3 * many ≤ length normals.old) }
-    ensures vertices_put { let lift = raise_of grid survey.entry.heights in
-        let made = ears_mesh corner_coords lift (spacing_of grid) ring.now ears.now in
+fn put_ears(relief: Relief, ears: Picked, vertices: &mut [f32], normals: &mut [f32]) -> usize
+    requires { let many = vertex_count (spacing_of relief.grid) ears.ring.now ears.numbers.now in
+        (3 * many ≤ length vertices.old) × (3 * many ≤ length normals.old) }
+    ensures vertices_put { let r = relief.entry in
+        let made = ears_mesh corner_coords (raised_by r) (spacing_of r.grid) ears.entry.ring.now ears.entry.numbers.now in
         Put vertices.old vertices.new 0 made result }
-    ensures normals_put { let lift = raise_of grid survey.entry.heights in
-        let made = ears_mesh face_normals lift (spacing_of grid) ring.now ears.now in
+    ensures normals_put { let r = relief.entry in
+        let made = ears_mesh face_normals (raised_by r) (spacing_of r.grid) ears.entry.ring.now ears.entry.numbers.now in
         Put normals.old normals.new 0 made result }
 {
-    let step = spacing_of(grid);
+    let step = relief.spacing();
     let mut at: usize = 0;
-    for k in 0..ears.len() / 3 {
-        let e = ear_at(ring, ears, k, step);
-        at = put_split(grid, survey, e, vertices, normals, at);
+    for k in 0..ears.numbers.len() / 3 {
+        let e = ear_at(ears, k, step);
+        at = put_split(relief, e, vertices, normals, at);
     }
     at
 }
@@ -291,25 +276,23 @@ fn put_ears(
 // The mesh, of lists that are not at fault.
 fn mesh_checked(
     ring: &[f32],
-    grid: Option<ElevationGrid>,
-    survey: Survey,
+    relief: Relief,
     vertices: &mut [f32],
     normals: &mut [f32],
     indices: &mut [u32],
 ) -> Result<usize, Refusal>
     requires { length ring.now ≤ 3 * max_ring }
-    ensures result_value { let g = ground_of ring.now grid survey.entry.heights in
+    ensures result_value { let g = ground_of ring.now relief.entry.grid relief.entry.survey.heights in
         let before = mesh_lists vertices.old normals.old indices.old [] in
         told result ≡ ground_result g before }
-    ensures mesh_after { let g = ground_of ring.now grid survey.entry.heights in
+    ensures mesh_after { let g = ground_of ring.now relief.entry.grid relief.entry.survey.heights in
         let before = mesh_lists vertices.old normals.old indices.old [] in
         let after = mesh_lists vertices.new normals.new indices.new [] in
         after ≡ leaves_mesh (ground_result g before) (ground_mesh g) before }
 {
     let mut memory = [0u32; 3 * MAX_RING];
-    let m = clip(ring, &mut memory);
-    let ears = &memory[..m];
-    let many = count_vertices(ring, ears, spacing_of(grid));
+    let ears = clip(ring, &mut memory);
+    let many = count_vertices(ears, relief.spacing());
     let lent = Lengths {
         vertices: vertices.len(),
         normals: normals.len(),
@@ -317,23 +300,22 @@ fn mesh_checked(
         spans: 0,
     };
     room_fault(ground_lengths(many), lent)?;
-    put_ears(ring, ears, grid, survey, vertices, normals);
-    count_up(indices, many);
+    put_ears(relief, ears, vertices, normals);
+    count_up(&mut indices[..many]);
     Ok(many)
 }
 
 // Why the lists are turned back, or the survey of the grid's. Its rows are list 1.
-#[tactic(auto, using(crate::proofs::Surveys::says_long, crate::proofs::Surveys::says_ragged, crate::proofs::Surveys::says_widest), unfolding(crate::specs::Refusal::told, crate::specs::Refusal::found, crate::specs::Refusal::judge, crate::specs::Refusal::refuse, crate::specs::Refusal::or_else, crate::specs::Refusal::number_of, crate::specs::Refusal::place_of, crate::specs::JunctionMesh::ground_input, crate::specs::JunctionMesh::ground_limits, crate::specs::JunctionMesh::ground_ragged, crate::specs::Lists::longer, crate::specs::Lists::uneven))]
+#[tactic(auto, using(crate::proofs::Surveys::says_long, crate::proofs::Surveys::says_ragged, crate::proofs::Surveys::says_widest), unfolding(crate::specs::Refusal::told, crate::specs::Refusal::found, crate::specs::Refusal::judge, crate::specs::Refusal::refuse, crate::specs::Refusal::or_else, crate::specs::Refusal::number_of, crate::specs::Refusal::place_of, crate::specs::JunctionMesh::ground_input, crate::specs::JunctionMesh::ground_limits, crate::specs::JunctionMesh::ground_ragged, crate::specs::ElevationSteps::refusal_of, crate::specs::Lists::longer, crate::specs::Lists::uneven))]
 fn survey<'a>(ring: &[f32], heights: Heights<'a>) -> Result<Survey<'a>, Refusal>
     ensures { let told = ground_input (ground_of ring.now None heights.entry) in
         MatchResult result (λ s. (s.heights ≡ heights.entry) × (told ≡ fine)) (λ r. told ≡ found (Err r)) }
 {
     refuse_if(3 * MAX_RING < ring.len(), Refusal::Oversize(MAX_RING))?;
     match heights.survey() {
-        Err(GridFault::Long) => Err(Refusal::Oversize(MAX_ROWS)),
-        _ if ring.len() % 3 != 0 => Err(Refusal::Ragged(0)),
-        Err(GridFault::Ragged) => Err(Refusal::Ragged(1)),
+        Ok(_) | Err(GridFault::Ragged) if ring.len() % 3 != 0 => Err(Refusal::Ragged(0)),
         Ok(survey) => Ok(survey),
+        Err(fault) => Err(fault.refusal(1)),
     }
 }
 
@@ -354,6 +336,9 @@ pub fn mesh(
         let after = mesh_lists vertices.new normals.new indices.new [] in
         after ≡ leaves_mesh (ground_answer g before) (ground_mesh g) before }
 {
-    let survey = survey(ring, heights)?;
-    mesh_checked(ring, grid, survey, vertices, normals, indices)
+    let relief = Relief {
+        grid,
+        survey: survey(ring, heights)?,
+    };
+    mesh_checked(ring, relief, vertices, normals, indices)
 }

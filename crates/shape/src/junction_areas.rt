@@ -576,35 +576,29 @@ fn ring_in(boundary: Checked, line: &mut [f32], out: &mut [f32]) -> Result<Outli
     finish(&line[..size], j.gap.root, dropped, out)
 }
 
-// The same in memory for as many points as may come, and in memory for a few: to clear the whole takes
-// longer than to join a few points.
-#[tactic(auto, unfolding(crate::specs::Refusal::refuse, crate::specs::Refusal::or_else, crate::specs::Lists::longer, crate::specs::Outline::outline_limits, crate::specs::Outline::outline_ragged, crate::specs::Outline::outline_fault))]
-fn ring_of_many(boundary: Checked, out: &mut [f32]) -> Result<Outline, Refusal>
+// The same in memory for N coordinates.
+fn ring_of<const N: usize>(boundary: Checked, out: &mut [f32]) -> Result<Outline, Refusal>
+    requires { (length boundary.points.now ≤ N) × (N ≤ 3 * max_boundary_points) }
     ensures { Outlines boundary.entry.segments.words.now boundary.entry.points.now out.old out.new result }
 {
-    let mut line = [0.0f32; 3 * MAX_BOUNDARY_POINTS];
+    let mut line = [0.0f32; N];
     ring_in(boundary, &mut line, out)
 }
 
-// How many coordinates are few: those of 256 points.
+// How many coordinates are few: those of 256 points. And as many as may come.
 const FEW: usize = 768;
 
-fn ring_of_few(boundary: Checked, out: &mut [f32]) -> Result<Outline, Refusal>
-    requires { length boundary.points.now ≤ 768 }
-    ensures { Outlines boundary.entry.segments.words.now boundary.entry.points.now out.old out.new result }
-{
-    let mut line = [0.0f32; FEW];
-    ring_in(boundary, &mut line, out)
-}
+const MANY: usize = 3 * MAX_BOUNDARY_POINTS;
 
-// The ring of a boundary. Its coordinates are left at the front of `out`.
-#[tactic(auto, unfolding(crate::specs::Refusal::found))]
+// The ring of a boundary. Its coordinates are left at the front of `out`. To clear memory for as many points as
+// may come takes longer than to join a few points.
+#[tactic(auto, unfolding(crate::specs::Refusal::found, crate::specs::Refusal::refuse, crate::specs::Refusal::or_else, crate::specs::Lists::longer, crate::specs::Outline::outline_limits, crate::specs::Outline::outline_ragged, crate::specs::Outline::outline_fault))]
 pub fn ring(boundary: Boundary, out: &mut [f32]) -> Result<Outline, Refusal>
     ensures { Outlines boundary.entry.segments.now boundary.entry.points.now out.old out.new result }
 {
     let checked = boundary.check()?;
     if checked.points.len() <= FEW {
-        return ring_of_few(checked, out);
+        return ring_of::<FEW>(checked, out);
     }
-    ring_of_many(checked, out)
+    ring_of::<MANY>(checked, out)
 }

@@ -186,11 +186,12 @@ impl<const WIDTH: usize> Records<'_, WIDTH> {
         requires { a + 1 < WIDTH }
         ensures { let ws = self.entry.words.now in result ≡ any (run_bad WIDTH a ws n) (length ws / WIDTH) }
     {
-        let mut found = false;
         for k in 0..self.len() {
-            found |= self.run_bad(a, n, k);
+            if self.run_bad(a, n, k) {
+                return true;
+            }
         }
-        found
+        false
     }
 
     // Is any run longer than the limit?
@@ -198,11 +199,12 @@ impl<const WIDTH: usize> Records<'_, WIDTH> {
         requires { (a + 1 < WIDTH) × (limit < 2 ^ 32) }
         ensures { let ws = self.entry.words.now in result ≡ any (run_long WIDTH a ws limit) (length ws / WIDTH) }
     {
-        let mut found = false;
         for k in 0..self.len() {
-            found |= self.run_long(a, limit, k);
+            if self.run_long(a, limit, k) {
+                return true;
+            }
         }
-        found
+        false
     }
 }
 

@@ -69,8 +69,7 @@ pub(crate) fn put<T: Copy, const N: usize>(out: &mut [T], at: usize, xs: [T; N])
     requires { at + N ≤ length out.old }
     ensures { Put out.old out.new at xs result }
 {
-    for i in 0..N {
-        out[at + i] = xs[i];
-    }
-    at + N
+    let next = at + N;
+    out[at..next].copy_from_slice(&xs);
+    next
 }

@@ -1,13 +1,13 @@
 // The strips of lanes, merged into one mesh (`RoadNetwork::surface_mesh`).
 #![tactic(auto, unfolding(crate::specs::Refusal::found, crate::specs::Refusal::refuse, crate::specs::Refusal::number_of, crate::specs::Refusal::place_of, crate::specs::Refusal::or_else, crate::specs::Lists::longer, crate::specs::Lists::uneven, crate::specs::SurfaceMesh::lane_limits, crate::specs::SurfaceMesh::runs_ragged, crate::specs::SurfaceMesh::lane_ragged, crate::specs::SurfaceMesh::input_fault, crate::specs::SurfaceMesh::counts_of))]
 
-ghost use Rattle.std.specs.Prelude.{◌≡◌, ◌/◌, ◌^◌, ◌<◌, false, length};
+ghost use Rattle.std.specs.Prelude.{MatchResult, ◌≡◌, ◌/◌, ◌^◌, ◌<◌, false, length};
 ghost use Rattle.shape.specs.Refusal.{found, told, fine};
 ghost use Rattle.shape.specs.Lists.{max_lane_points, word_of, run_long, mesh_lists};
 ghost use Rattle.shape.specs.MeshMemory.{lengths_of, room_fault, leaves_mesh};
 ghost use Rattle.shape.specs.Strip.{lane_of};
-ghost use Rattle.shape.specs.SurfaceMesh.{lane_words, points_word, given_of, lanes_of, lane_run, lane_at, lane_limits, runs_ragged, lane_ragged, input_fault, mesh_of, counts_of, call_fault, answer_of};
-ghost use Rattle.shape.specs.MeshSteps.{lengths_at, Topped, Enough, Sizes, Written, Fitting};
+ghost use Rattle.shape.specs.SurfaceMesh.{lane_words, points_word, given_of, lanes_of, lane_run, lane_at, lane_limits, runs_ragged, lane_ragged, input_fault, mesh_of, counts_of, answer_of};
+ghost use Rattle.shape.specs.MeshSteps.{Topped, Enough, Sizes, Written, Fitting};
 
 use crate::lists::{MAX_LANE_POINTS, MAX_LANES, Records, SPAN_WORDS, part};
 use crate::memory::{Lengths, room_fault};
@@ -98,115 +98,9 @@ impl<'a> Lanes<'a> {
     }
 }
 
-// The sizes of the mesh of checked lanes.
-fn totals(lanes: Lanes) -> At
-    requires { input_fault (given_of lanes) ≡ fine }
-    ensures { let g = given_of lanes.entry in Sizes g (lanes_of g) result }
-{
-    let mut kept = [0u32; MAX_LANE_POINTS];
-    let mut at = At::START;
-    for k in 0..lanes.count() {
-        at = size_strip(lanes.lane(k), &mut kept, at);
-    }
-    at
-}
+// ---- whether they are turned back
 
-// The most that lane k can add to the sizes: a rib for each point, or two.
-#[tactic(auto, using(crate::proofs::Meshing::not_long))]
-fn most_lane(lanes: Lanes, k: usize, at: At) -> At
-    requires { (run_long lane_words points_word lanes.records.now max_lane_points k ≡ false) × (at.floats < 2 ^ 60) × (at.index < 2 ^ 60) × (at.word < 2 ^ 60) }
-    ensures { Topped lanes.entry.records.now k at result }
-{
-    let s = lanes.word(k, LANE_POINTS);
-    let e = lanes.word(k, LANE_POINTS_END);
-    let n = e.saturating_sub(s).max(2);
-    At {
-        floats: at.floats + 6 * n,
-        index: at.index + 6 * (n - 1),
-        word: at.word + SPAN_WORDS,
-    }
-}
-
-// The most that checked lanes can give.
-fn most_sizes(lanes: Lanes) -> At
-    requires { input_fault (given_of lanes) ≡ fine }
-    ensures { let g = given_of lanes.entry in Enough g (lanes_of g) result }
-{
-    let mut at = At::START;
-    for k in 0..lanes.count() {
-        at = most_lane(lanes, k, at);
-    }
-    at
-}
-
-// The mesh of checked lanes into the memory.
-fn put_lanes(
-    lanes: Lanes,
-    vertices: &mut [f32],
-    normals: &mut [f32],
-    indices: &mut [u32],
-    spans: &mut [u32],
-) -> At
-    requires checked { input_fault (given_of lanes) ≡ fine }
-    requires fitting { let g = given_of lanes in Fitting g (lanes_of g) vertices.old normals.old indices.old spans.old }
-    ensures { let g = given_of lanes.entry in
-        Written g (lanes_of g) result
-        vertices.old vertices.new normals.old normals.new
-        indices.old indices.new spans.old spans.new }
-{
-    let mut kept = [0u32; MAX_LANE_POINTS];
-    let mut at = At::START;
-    for k in 0..lanes.count() {
-        let id = lanes.word(k, LANE_ID);
-        at = put_strip(
-            lanes.lane(k),
-            id,
-            &mut kept,
-            at,
-            vertices,
-            normals,
-            indices,
-            spans,
-        );
-    }
-    at
-}
-
-// ---- the call
-
-// What was made: vertices and normals in points, indices in numbers, spans in spans.
-#[derive(Clone, Copy)]
-pub struct MeshCounts {
-    pub vertices: usize,
-    pub normals: usize,
-    pub indices: usize,
-    pub spans: usize,
-}
-
-fn counts(made: Lengths) -> MeshCounts
-    ensures { result ≡ counts_of made }
-{
-    MeshCounts {
-        vertices: made.vertices / 3,
-        normals: made.normals / 3,
-        indices: made.indices,
-        spans: made.spans / SPAN_WORDS,
-    }
-}
-
-// The lists up to `at`: there are as many normals as vertices.
-fn lengths_at(at: At) -> Lengths
-    ensures { result ≡ lengths_at at }
-{
-    Lengths {
-        vertices: at.floats,
-        normals: at.floats,
-        indices: at.index,
-        spans: at.word,
-    }
-}
-
-impl Lanes<'_> {
+impl<'a> Lanes<'a> {
     // Runs and lanes past their limits.
     fn limits(self) -> Result<(), Refusal>
         ensures { found result ≡ lane_limits self.entry.records.now }
@@ -249,34 +143,131 @@ impl Lanes<'_> {
         self.runs_ragged()
     }
 
-    // Why the lanes are turned back, if they are.
-    fn check(self) -> Result<(), Refusal>
-        ensures { found result ≡ input_fault (given_of self.entry) }
+    // The lanes as ones that are checked, or why they are turned back.
+    fn check(self) -> Result<Checked<'a>, Refusal>
+        ensures { MatchResult result (λ c. c.lanes ≡ self.entry) (λ r. found (Err r) ≡ input_fault (given_of self.entry)) }
     {
         self.limits()?;
-        self.ragged()
+        self.ragged()?;
+        Ok(Checked { lanes: self })
     }
 }
 
-// Why the mesh of checked lanes is not written, if it is not. Where the most that the lanes can give fits,
-// nothing need be counted first.
-fn mesh_room(lanes: Lanes, lent: Lengths) -> Result<(), Refusal>
-    requires { input_fault (given_of lanes) ≡ fine }
-    ensures { found result ≡ room_fault (lengths_of (mesh_of (given_of lanes.entry))) lent }
-{
-    if room_fault(lengths_at(most_sizes(lanes)), lent).is_ok() {
-        return Ok(());
-    }
-    room_fault(lengths_at(totals(lanes)), lent)
+// ---- checked lanes
+
+// Lanes whose lists are not turned back.
+#[derive(Clone, Copy)]
+struct Checked<'a> {
+    lanes: Lanes<'a>,
+    ghost sound: { input_fault (given_of lanes) ≡ fine },
 }
 
-// Why the call is turned back, if it is.
-#[tactic(auto, unfolding(crate::specs::Refusal::found, crate::specs::Refusal::or_else, crate::specs::SurfaceMesh::call_fault))]
-fn call_fault(lanes: Lanes, lent: Lengths) -> Result<(), Refusal>
-    ensures { found result ≡ call_fault (given_of lanes.entry) lent }
+// The most that lane k can add to the sizes: a rib for each point, or two.
+#[tactic(auto, using(crate::proofs::Meshing::not_long))]
+fn most_lane(lanes: Lanes, k: usize, at: At) -> At
+    requires { (run_long lane_words points_word lanes.records.now max_lane_points k ≡ false) × (at.floats < 2 ^ 60) × (at.index < 2 ^ 60) × (at.word < 2 ^ 60) }
+    ensures { Topped lanes.entry.records.now k at result }
 {
-    lanes.check()?;
-    mesh_room(lanes, lent)
+    let s = lanes.word(k, LANE_POINTS);
+    let e = lanes.word(k, LANE_POINTS_END);
+    let n = e.saturating_sub(s).max(2);
+    At {
+        floats: at.floats + 6 * n,
+        index: at.index + 6 * (n - 1),
+        word: at.word + SPAN_WORDS,
+    }
+}
+
+impl Checked<'_> {
+    // The sizes of their mesh.
+    fn totals(self) -> At
+        ensures { let g = given_of self.entry.lanes in Sizes g (lanes_of g) result }
+    {
+        let mut kept = [0u32; MAX_LANE_POINTS];
+        let mut at = At::START;
+        for k in 0..self.lanes.count() {
+            at = size_strip(self.lanes.lane(k), &mut kept, at);
+        }
+        at
+    }
+
+    // The most that they can give.
+    fn most_sizes(self) -> At
+        ensures { let g = given_of self.entry.lanes in Enough g (lanes_of g) result }
+    {
+        let mut at = At::START;
+        for k in 0..self.lanes.count() {
+            at = most_lane(self.lanes, k, at);
+        }
+        at
+    }
+
+    // Why their mesh is not written, if it is not. Where the most that they can give fits, nothing need be
+    // counted first.
+    fn room(self, lent: Lengths) -> Result<(), Refusal>
+        ensures { found result ≡ room_fault (lengths_of (mesh_of (given_of self.entry.lanes))) lent }
+    {
+        if room_fault(Lengths::from(self.most_sizes()), lent).is_ok() {
+            return Ok(());
+        }
+        room_fault(Lengths::from(self.totals()), lent)
+    }
+
+    // Their mesh into the memory.
+    fn put(
+        self,
+        vertices: &mut [f32],
+        normals: &mut [f32],
+        indices: &mut [u32],
+        spans: &mut [u32],
+    ) -> At
+        requires { let g = given_of self.lanes in Fitting g (lanes_of g) vertices.old normals.old indices.old spans.old }
+        ensures { let g = given_of self.entry.lanes in
+            Written g (lanes_of g) result
+            vertices.old vertices.new normals.old normals.new
+            indices.old indices.new spans.old spans.new }
+    {
+        let mut kept = [0u32; MAX_LANE_POINTS];
+        let mut at = At::START;
+        for k in 0..self.lanes.count() {
+            let id = self.lanes.word(k, LANE_ID);
+            at = put_strip(
+                self.lanes.lane(k),
+                id,
+                &mut kept,
+                at,
+                vertices,
+                normals,
+                indices,
+                spans,
+            );
+        }
+        at
+    }
+}
+
+// ---- the call
+
+// What was made: vertices and normals in points, indices in numbers, spans in spans.
+#[derive(Clone, Copy)]
+pub struct MeshCounts {
+    pub vertices: usize,
+    pub normals: usize,
+    pub indices: usize,
+    pub spans: usize,
+}
+
+impl From<Lengths> for MeshCounts {
+    ghost from_gives = { λ made counts. counts ≡ counts_of made };
+
+    fn from(made: Lengths) -> Self {
+        MeshCounts {
+            vertices: made.vertices / 3,
+            normals: made.normals / 3,
+            indices: made.indices,
+            spans: made.spans / SPAN_WORDS,
+        }
+    }
 }
 
 // The strips of all lanes, one after another, into the lent memory. A lane is ten words: its id; start
@@ -303,7 +294,8 @@ pub fn surface_mesh(
         indices: indices.len(),
         spans: spans.len(),
     };
-    call_fault(lanes, lent)?;
-    let at = put_lanes(lanes, vertices, normals, indices, spans);
-    Ok(counts(lengths_at(at)))
+    let checked = lanes.check()?;
+    checked.room(lent)?;
+    let at = checked.put(vertices, normals, indices, spans);
+    Ok(MeshCounts::from(Lengths::from(at)))
 }

@@ -5,10 +5,10 @@ ghost use Rattle.shape.specs.Memory.{Put};
 ghost use Rattle.shape.specs.Lists.{max_lane_points, span_words};
 ghost use Rattle.shape.specs.Strip.{lane_of, six_of, ups_of, no_area, triangle_of, segment_of, vertices_of, normals_of, indices_of};
 ghost use Rattle.shape.specs.SurfaceMesh.{span_of};
-ghost use Rattle.shape.specs.MeshSteps.{Grown, Room, Wrote};
+ghost use Rattle.shape.specs.MeshSteps.{lengths_at, Grown, Room, Wrote};
 
 use crate::lists::SPAN_WORDS;
-use crate::memory::put;
+use crate::memory::{Lengths, put};
 use crate::rib::{Lane, Rib, no_leg};
 use crate::weld::weld;
 use vector::coords::Point;
@@ -102,6 +102,20 @@ impl At {
         index: 0,
         word: 0,
     };
+}
+
+// The lists of a mesh up to there: there are as many normals as vertices.
+impl From<At> for Lengths {
+    ghost from_gives = { λ at made. made ≡ lengths_at at };
+
+    fn from(at: At) -> Self {
+        Lengths {
+            vertices: at.floats,
+            normals: at.floats,
+            indices: at.index,
+            spans: at.word,
+        }
+    }
 }
 
 // The strip over the kept points, of which there are some, from `at` on. Each rib serves the segment

@@ -2,7 +2,7 @@
 #![tactic(auto, unfolding(crate::specs::Refusal::found, crate::specs::Refusal::judge, crate::specs::Refusal::number_of, crate::specs::Refusal::place_of, crate::specs::Verdict::unsound, crate::specs::Verdict::flat_or, crate::specs::Verdict::corner_of, crate::specs::Verdict::finding_of, crate::specs::Verdict::is_faulty, crate::specs::Verdict::faulty_at, crate::specs::Verdict::tell, crate::specs::Verdict::of_triangles, crate::specs::Verdict::validity_of, crate::specs::Verdict::verdict_of, crate::specs::Verdict::read_verdict))]
 
 ghost use Rattle.std.specs.Prelude.{◌≡◌, ◌+◌, ◌*◌, ◌/◌, ◌<◌, true, length};
-ghost use Rattle.shape.specs.Gather.{least};
+ghost use Rattle.shape.specs.Gather.{IsFirst};
 ghost use Rattle.shape.specs.Refusal.{judge, taken};
 ghost use Rattle.shape.specs.Lists.{point_at, lists_of, mesh_fault};
 ghost use Rattle.shape.specs.Strip.{no_area};
@@ -45,27 +45,26 @@ fn every_finite(xs: &[f32]) -> bool
     ok
 }
 
-// The first vertex that is not finite, and their number where all are.
+// The first vertex that is not finite.
 #[tactic(auto, using(crate::proofs::Laws::Gather::any_next, crate::proofs::Laws::Gather::least_found, crate::proofs::Laws::Gather::least_past), unfolding(crate::specs::Gather::any, crate::specs::Verdict::unsound))]
-fn search_unsound(vertices: &[f32]) -> usize
-    ensures { result ≡ least (unsound vertices.now) (length vertices.now / 3) }
+fn search_unsound(vertices: &[f32]) -> Option<usize>
+    ensures { IsFirst (unsound vertices.now) (length vertices.now / 3) result }
 {
-    let n = vertices.len() / 3;
-    for i in 0..n {
+    for i in 0..vertices.len() / 3 {
         if !point_at(vertices, i).is_finite() {
-            return i;
+            return Some(i);
         }
     }
-    n
+    None
 }
 
 // The same. In most meshes all are finite, which takes no search to see.
 #[tactic(auto, using(crate::proofs::Laws::Gather::least_none, crate::proofs::Verdicts::finite_sound))]
-fn first_unsound(vertices: &[f32]) -> usize
-    ensures { result ≡ least (unsound vertices.now) (length vertices.now / 3) }
+fn first_unsound(vertices: &[f32]) -> Option<usize>
+    ensures { IsFirst (unsound vertices.now) (length vertices.now / 3) result }
 {
     if every_finite(vertices) {
-        return vertices.len() / 3;
+        return None;
     }
     search_unsound(vertices)
 }
@@ -146,20 +145,20 @@ fn whole_faulty(vertices: &[f32], indices: &[u32], n: usize, t: usize) -> bool
     a == c || no_area_at(vertices, a, b, c)
 }
 
-// The first triangle with something wrong, and their number where there is none. A short last one has
-// something wrong in any case.
-#[tactic(auto, using(crate::proofs::Laws::Gather::any_next, crate::proofs::Laws::Gather::least_found, crate::proofs::Verdicts::whole_least), unfolding(crate::specs::Gather::any))]
-fn first_faulty(vertices: &[f32], indices: &[u32]) -> usize
-    ensures { result ≡ least (faulty_at vertices.now indices.now) (triples_of indices.now) }
+// The first triangle with something wrong. A short last one has something wrong in any case.
+#[tactic(auto, using(crate::proofs::Laws::Gather::any_next, crate::proofs::Laws::Gather::least_found, crate::proofs::Verdicts::first_short), unfolding(crate::specs::Gather::any))]
+fn first_faulty(vertices: &[f32], indices: &[u32]) -> Option<usize>
+    ensures { IsFirst (faulty_at vertices.now indices.now) (triples_of indices.now) result }
 {
     let n = vertices.len() / 3;
     let m = indices.len() / 3;
     for t in 0..m {
         if whole_faulty(vertices, indices, n, t) {
-            return t;
+            return Some(t);
         }
     }
-    m
+    let short = indices.len() % 3 != 0;
+    short.then_some(m)
 }
 
 // What is wrong with triangle t, as the verdict on a mesh of n vertices.
@@ -176,13 +175,10 @@ fn error_of(t: usize, flaw: Flaw, n: usize) -> MeshError
 fn of_triangles(vertices: &[f32], indices: &[u32]) -> Result<(), MeshError>
     ensures { verdict_of result ≡ of_triangles vertices.now indices.now }
 {
-    let t = first_faulty(vertices, indices);
-    if t < indices.len().div_ceil(3) {
-        if let Err(flaw) = examine(vertices, indices, t) {
-            return Err(error_of(t, flaw, vertices.len() / 3));
-        }
-    }
-    Ok(())
+    let Some(t) = first_faulty(vertices, indices) else {
+        return Ok(());
+    };
+    examine(vertices, indices, t).map_err(|flaw| error_of(t, flaw, vertices.len() / 3))
 }
 
 // The verdict on sound lists.
@@ -192,8 +188,7 @@ fn of_lists(vertices: &[f32], indices: &[u32]) -> Result<(), MeshError>
     if indices.is_empty() {
         return Err(MeshError::Empty);
     }
-    let v = first_unsound(vertices);
-    if v < vertices.len() / 3 {
+    if let Some(v) = first_unsound(vertices) {
         return Err(MeshError::NonFiniteVertex(v));
     }
     of_triangles(vertices, indices)

@@ -14,9 +14,13 @@ impl<'a> Answer<'a> {
         Answer { made, count: 0 }
     }
 
-    // How many words are put.
-    pub fn count(&self) -> usize {
-        self.count
+    // The words that are put, if all had room.
+    pub fn made(self) -> Option<&'a [u32]> {
+        let Answer { made, count } = self;
+        if count > made.len() {
+            return None;
+        }
+        Some(&made[..count])
     }
 
     pub fn word(&mut self, w: u32) {

@@ -1,9 +1,11 @@
-// Lists of a case as the calls want them lent. In a case a list is its length, the count of the words that
-// are given of it, and these. Where the list is longer they repeat, so that a long list is a short case.
+// A case, word after word, and its lists as the calls want them lent. In a case a list is its length, the
+// count of the words that are given of it, and these. Where the list is longer they repeat, so that a long
+// list is a short case.
 ghost use Rattle.std.specs.Prelude.{◌≤◌, IfSome};
 
-use crate::stream::{put, word};
+use crate::stream::word;
 use rounding::bits::{from_bits32, from_bits64};
+use vector::coords::{Point, Vector};
 
 // What lent memory holds before a call.
 pub const BLANK: f32 = 1234.5;
@@ -69,15 +71,47 @@ pub struct Case<'a> {
 }
 
 impl<'a> Case<'a> {
-    // The words of a case from `at` on.
-    pub fn new(words: &'a [u32], at: usize) -> Case<'a> {
-        Case { words, at }
+    pub fn new(words: &'a [u32]) -> Case<'a> {
+        Case { words, at: 0 }
+    }
+
+    // Are all words read, and none past the last?
+    pub fn is_read(&self) -> bool {
+        self.at == self.words.len()
+    }
+
+    pub fn word(&mut self) -> u32 {
+        let w = word(self.words, self.at);
+        self.at = self.at.wrapping_add(1);
+        w
     }
 
     pub fn number(&mut self) -> usize {
-        let n = word(self.words, self.at) as usize;
-        self.at = self.at.wrapping_add(1);
-        n
+        self.word() as usize
+    }
+
+    pub fn single(&mut self) -> f32 {
+        from_bits32(self.word())
+    }
+
+    // A double, its low word first.
+    pub fn double(&mut self) -> f64 {
+        from_bits64(self.word(), self.word())
+    }
+
+    // The next three singles.
+    fn three(&mut self) -> [f32; 3] {
+        [self.single(), self.single(), self.single()]
+    }
+
+    pub fn point(&mut self) -> Point {
+        let [x, y, z] = self.three();
+        Point { x, y, z }
+    }
+
+    pub fn vector(&mut self) -> Vector {
+        let [x, y, z] = self.three();
+        Vector { x, y, z }
     }
 
     // The next number, which is how much room there is in an output: at most `most`.
@@ -104,9 +138,10 @@ impl<'a> Case<'a> {
         if length > memory.len() || (length > 0 && count < T::WORDS) {
             return None;
         }
-        for i in 0..length {
-            put(memory, i, T::listed(given, i));
+        let list = &mut memory[..length];
+        for (i, x) in list.iter_mut().enumerate() {
+            *x = T::listed(given, i);
         }
-        Some(&memory[..length])
+        Some(list)
     }
 }

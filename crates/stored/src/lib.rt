@@ -5,8 +5,7 @@
 
 pub mod answer;
 pub mod lent;
-pub mod names;
-pub mod numbers;
+pub mod op;
 pub mod rounding_ops;
 pub mod stream;
 pub mod text;

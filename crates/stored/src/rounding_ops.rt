@@ -1,11 +1,8 @@
 // The operations of the rounding layer over words. An operation's number is its place in the oracle's
 // list, and 100 and on are checks that the oracle has no operation for.
-ghost use Rattle.std.specs.Prelude.{◌≡◌};
-ghost use Rattle.std.specs.Int.{w64};
-ghost use Rattle.std.proofs.Common.{of_z};
-
 use crate::answer::Answer;
-use crate::numbers::{double, single};
+use crate::lent::Case;
+use crate::op::UnknownOp;
 use rounding::binary::Binary;
 use rounding::bits::stored_word;
 use rounding::compare::{
@@ -17,15 +14,123 @@ use rounding::hypot::{hypot, squares};
 use rounding::root::{sqrt32, sqrt64};
 use rounding::whole::{ceil, floor, round};
 use rounding::width::{narrow, widen};
+use std::fmt;
 
-// The bits of n in two's complement. Those of -1 - n are the same with each bit turned.
-fn signed_bits(n: i64) -> u64
-    ensures { result ≡ of_z w64 n }
-{
-    if n >= 0 {
-        return n as u64;
+#[derive(Clone, Copy)]
+pub enum RoundingOp {
+    Sqrt32,
+    Floor32,
+    Ceil32,
+    Round32,
+    Sqrt64,
+    Floor64,
+    Ceil64,
+    Round64,
+    Narrow,
+    Widen,
+    Min32,
+    Max32,
+    Min64,
+    Max64,
+    Clamp32,
+    Clamp64,
+    Count32,
+    Count64,
+    Int64,
+    Hypot,
+    Bits32,
+    Bits64,
+    Stored,
+    Abs32,
+    Abs64,
+    IsFinite32,
+    IsFinite64,
+    RootBelowMicro,
+    RootAboveTenth,
+    Squares,
+    HypotAboveMilli,
+    HypotAtMostMilli,
+}
+
+impl TryFrom<u32> for RoundingOp {
+    type Error = UnknownOp;
+
+    fn try_from(number: u32) -> Result<Self, UnknownOp> {
+        Ok(match number {
+            0 => RoundingOp::Sqrt32,
+            1 => RoundingOp::Floor32,
+            2 => RoundingOp::Ceil32,
+            3 => RoundingOp::Round32,
+            4 => RoundingOp::Sqrt64,
+            5 => RoundingOp::Floor64,
+            6 => RoundingOp::Ceil64,
+            7 => RoundingOp::Round64,
+            8 => RoundingOp::Narrow,
+            9 => RoundingOp::Widen,
+            10 => RoundingOp::Min32,
+            11 => RoundingOp::Max32,
+            12 => RoundingOp::Min64,
+            13 => RoundingOp::Max64,
+            14 => RoundingOp::Clamp32,
+            15 => RoundingOp::Clamp64,
+            16 => RoundingOp::Count32,
+            17 => RoundingOp::Count64,
+            18 => RoundingOp::Int64,
+            19 => RoundingOp::Hypot,
+            100 => RoundingOp::Bits32,
+            101 => RoundingOp::Bits64,
+            102 => RoundingOp::Stored,
+            103 => RoundingOp::Abs32,
+            104 => RoundingOp::Abs64,
+            105 => RoundingOp::IsFinite32,
+            106 => RoundingOp::IsFinite64,
+            107 => RoundingOp::RootBelowMicro,
+            108 => RoundingOp::RootAboveTenth,
+            109 => RoundingOp::Squares,
+            110 => RoundingOp::HypotAboveMilli,
+            111 => RoundingOp::HypotAtMostMilli,
+            _ => return Err(UnknownOp(number)),
+        })
     }
-    u64::MAX - ((-1 - n) as u64)
+}
+
+impl fmt::Display for RoundingOp {
+    fn fmt<W: fmt::Write>(&self, f: &mut fmt::Formatter<W>) -> fmt::Result {
+        f.write_str(match self {
+            RoundingOp::Sqrt32 => "sqrt32",
+            RoundingOp::Floor32 => "floor32",
+            RoundingOp::Ceil32 => "ceil32",
+            RoundingOp::Round32 => "round32",
+            RoundingOp::Sqrt64 => "sqrt64",
+            RoundingOp::Floor64 => "floor64",
+            RoundingOp::Ceil64 => "ceil64",
+            RoundingOp::Round64 => "round64",
+            RoundingOp::Narrow => "narrow",
+            RoundingOp::Widen => "widen",
+            RoundingOp::Min32 => "min32",
+            RoundingOp::Max32 => "max32",
+            RoundingOp::Min64 => "min64",
+            RoundingOp::Max64 => "max64",
+            RoundingOp::Clamp32 => "clamp32",
+            RoundingOp::Clamp64 => "clamp64",
+            RoundingOp::Count32 => "count32",
+            RoundingOp::Count64 => "count64",
+            RoundingOp::Int64 => "int64",
+            RoundingOp::Hypot => "hypot",
+            RoundingOp::Bits32 => "bits32",
+            RoundingOp::Bits64 => "bits64",
+            RoundingOp::Stored => "stored",
+            RoundingOp::Abs32 => "abs32",
+            RoundingOp::Abs64 => "abs64",
+            RoundingOp::IsFinite32 => "is_finite32",
+            RoundingOp::IsFinite64 => "is_finite64",
+            RoundingOp::RootBelowMicro => "root_below_micro",
+            RoundingOp::RootAboveTenth => "root_above_tenth",
+            RoundingOp::Squares => "squares",
+            RoundingOp::HypotAboveMilli => "hypot_above_milli",
+            RoundingOp::HypotAtMostMilli => "hypot_at_most_milli",
+        })
+    }
 }
 
 // Zeros of unlike sign: Rust leaves open which of them is the smaller.
@@ -33,114 +138,75 @@ fn unlike_zeros(x: u64, y: u64, sign: u64) -> bool {
     (x == 0 || x == sign) && (y == 0 || y == sign) && x != y
 }
 
-// The smaller or the larger of two numbers, 0 where Rust leaves it open.
-fn extreme<T: Binary + Default>(least: bool, x: T, y: T) -> T {
+// `pick`, the smaller or the larger, of two numbers, and 0 where Rust leaves it open.
+fn extreme<T: Binary + Default, F: Fn(T, T) -> T>(pick: F, x: T, y: T) -> T
+    requires { F.IsAlwaysCallable pick }
+{
     if unlike_zeros(x.bits(), y.bits(), T::SIGN) {
         return T::default();
     }
-    if least { min(x, y) } else { max(x, y) }
+    pick(x, y)
 }
 
 // The number brought between two bounds, or none where Rust panics.
 fn clamped<T: Binary>(x: T, lo: T, hi: T) -> Option<T> {
-    if lo <= hi {
-        return Some(clamp(x, lo, hi));
+    (lo <= hi).then(|| clamp(x, lo, hi))
+}
+
+impl RoundingOp {
+    // Does the operation answer 0 first where Rust panics?
+    pub fn may_panic(self) -> bool {
+        matches!(self, RoundingOp::Clamp32 | RoundingOp::Clamp64)
     }
-    None
-}
 
-// Does the operation answer 0 first where Rust panics?
-pub fn may_panic(op: u32) -> bool {
-    op == 14 || op == 15
-}
-
-// How many words an operation takes, and 0 for one that is not known.
-pub fn takes(op: u32) -> usize {
-    match op {
-        0..=3 | 9 | 16 | 100 | 102 | 103 | 105 | 107 | 108 => 1,
-        4..=8 | 10 | 11 | 17..=19 | 101 | 104 | 106 | 109..=111 => 2,
-        14 => 3,
-        12 | 13 => 4,
-        15 => 6,
-        _ => 0,
-    }
-}
-
-// An operation on one single.
-fn from_single(op: u32, x: f32, answer: &mut Answer) {
-    match op {
-        0 => answer.single(sqrt32(x)),
-        1 => answer.single(floor(x)),
-        2 => answer.single(ceil(x)),
-        3 => answer.single(round(x)),
-        9 => answer.double(widen(x)),
-        16 => answer.wide(count(x)),
-        100 => answer.single(x),
-        102 => answer.word(stored_word(x)),
-        103 => answer.single(abs(x)),
-        105 => answer.test(is_finite(x)),
-        107 => answer.test(root_below_micro(x)),
-        _ => answer.test(root_above_tenth(x)),
-    }
-}
-
-// An operation on one double.
-fn from_double(op: u32, x: f64, answer: &mut Answer) {
-    match op {
-        4 => answer.double(sqrt64(x)),
-        5 => answer.double(floor(x)),
-        6 => answer.double(ceil(x)),
-        7 => answer.double(round(x)),
-        8 => answer.single(narrow(x)),
-        17 => answer.wide(count(x)),
-        18 => answer.wide(signed_bits(int64(x))),
-        101 => answer.double(x),
-        104 => answer.double(abs(x)),
-        _ => answer.test(is_finite(x)),
-    }
-}
-
-// An operation on two singles.
-fn from_singles(op: u32, x: f32, y: f32, answer: &mut Answer) {
-    match op {
-        10 | 11 => answer.single(extreme(op == 10, x, y)),
-        19 => answer.single(hypot(x, y)),
-        109 => answer.double(squares(x, y)),
-        110 => answer.test(hypot_above_milli(x, y)),
-        _ => answer.test(hypot_at_most_milli(x, y)),
-    }
-}
-
-// 1 and the value, or 0 and 0 where Rust panics.
-fn put_single(x: Option<f32>, answer: &mut Answer) {
-    answer.test(x.is_some());
-    answer.single(x.unwrap_or(0.0));
-}
-
-fn put_double(x: Option<f64>, answer: &mut Answer) {
-    answer.test(x.is_some());
-    answer.double(x.unwrap_or(0.0));
-}
-
-// Works the operation on the words `given`, which are as many as it takes.
-pub fn work(op: u32, given: &[u32], answer: &mut Answer) {
-    match op {
-        10 | 11 | 19 | 109..=111 => {
-            from_singles(op, single(given, 0), single(given, 1), answer);
+    // Works the operation on a case. There is no answer where that has not as many words as the operation takes.
+    pub fn work(self, case: &mut Case, answer: &mut Answer) -> Option<()> {
+        match self {
+            RoundingOp::Sqrt32 => answer.single(sqrt32(case.single())),
+            RoundingOp::Floor32 => answer.single(floor(case.single())),
+            RoundingOp::Ceil32 => answer.single(ceil(case.single())),
+            RoundingOp::Round32 => answer.single(round(case.single())),
+            RoundingOp::Sqrt64 => answer.double(sqrt64(case.double())),
+            RoundingOp::Floor64 => answer.double(floor(case.double())),
+            RoundingOp::Ceil64 => answer.double(ceil(case.double())),
+            RoundingOp::Round64 => answer.double(round(case.double())),
+            RoundingOp::Narrow => answer.single(narrow(case.double())),
+            RoundingOp::Widen => answer.double(widen(case.single())),
+            RoundingOp::Min32 => answer.single(extreme(min, case.single(), case.single())),
+            RoundingOp::Max32 => answer.single(extreme(max, case.single(), case.single())),
+            RoundingOp::Min64 => answer.double(extreme(min, case.double(), case.double())),
+            RoundingOp::Max64 => answer.double(extreme(max, case.double(), case.double())),
+            RoundingOp::Clamp32 => {
+                let x = clamped(case.single(), case.single(), case.single());
+                answer.test(x.is_some());
+                answer.single(x.unwrap_or(0.0));
+            }
+            RoundingOp::Clamp64 => {
+                let x = clamped(case.double(), case.double(), case.double());
+                answer.test(x.is_some());
+                answer.double(x.unwrap_or(0.0));
+            }
+            RoundingOp::Count32 => answer.wide(count(case.single())),
+            RoundingOp::Count64 => answer.wide(count(case.double())),
+            RoundingOp::Int64 => answer.wide(int64(case.double()).cast_unsigned()),
+            RoundingOp::Hypot => answer.single(hypot(case.single(), case.single())),
+            RoundingOp::Bits32 => answer.single(case.single()),
+            RoundingOp::Bits64 => answer.double(case.double()),
+            RoundingOp::Stored => answer.word(stored_word(case.single())),
+            RoundingOp::Abs32 => answer.single(abs(case.single())),
+            RoundingOp::Abs64 => answer.double(abs(case.double())),
+            RoundingOp::IsFinite32 => answer.test(is_finite(case.single())),
+            RoundingOp::IsFinite64 => answer.test(is_finite(case.double())),
+            RoundingOp::RootBelowMicro => answer.test(root_below_micro(case.single())),
+            RoundingOp::RootAboveTenth => answer.test(root_above_tenth(case.single())),
+            RoundingOp::Squares => answer.double(squares(case.single(), case.single())),
+            RoundingOp::HypotAboveMilli => {
+                answer.test(hypot_above_milli(case.single(), case.single()));
+            }
+            RoundingOp::HypotAtMostMilli => {
+                answer.test(hypot_at_most_milli(case.single(), case.single()));
+            }
         }
-        12 | 13 => answer.double(extreme(op == 12, double(given, 0), double(given, 2))),
-        14 => put_single(
-            clamped(single(given, 0), single(given, 1), single(given, 2)),
-            answer,
-        ),
-        15 => put_double(
-            clamped(double(given, 0), double(given, 2), double(given, 4)),
-            answer,
-        ),
-        _ => match takes(op) {
-            1 => from_single(op, single(given, 0), answer),
-            2 => from_double(op, double(given, 0), answer),
-            _ => {}
-        },
+        case.is_read().then_some(())
     }
 }

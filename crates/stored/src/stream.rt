@@ -11,9 +11,7 @@ pub fn word_at(bytes: &[u8], i: usize) -> u32
 {
     if i < bytes.len() / 4 {
         let k = i * 4;
-        let low = bytes[k] as u32 + bytes[k + 1] as u32 * 0x100;
-        let high = bytes[k + 2] as u32 + bytes[k + 3] as u32 * 0x100;
-        return low + high * 0x1_0000;
+        return u32::from_le_bytes([bytes[k], bytes[k + 1], bytes[k + 2], bytes[k + 3]]);
     }
     0
 }
@@ -105,17 +103,18 @@ impl<R: Read> Words<R> {
         Some(w)
     }
 
-    // Reads a count and that many words to the start of `list`: how many, if all came and had room.
-    pub fn list(&mut self, list: &mut [u32]) -> Option<usize>
-        ensures { IfSome result (λ n. n ≤ length list.new) }
+    // Reads a count and that many words to the start of `memory`: these, if all came and had room.
+    pub fn list<'m>(&mut self, memory: &'m mut [u32]) -> Option<&'m [u32]>
+        ensures { IfSome result (λ list. length list.now ≤ length memory.old) }
     {
         let n = self.word()? as usize;
-        if n > list.len() {
+        if n > memory.len() {
             return None;
         }
-        for i in 0..n {
-            put(list, i, self.word()?);
+        let list = &mut memory[..n];
+        for x in list.iter_mut() {
+            *x = self.word()?;
         }
-        Some(n)
+        Some(list)
     }
 }

@@ -37,9 +37,9 @@ fn counts(out: &impl Print, t: Tally) -> io::Result<()> {
 }
 
 // The line of one operation after its name. `first` is the number of the first case that differs, from 0.
-pub fn block_line(out: &impl Print, t: Tally, first: u64) -> io::Result<()> {
+pub fn block_line(out: &impl Print, t: Tally, first: Option<u32>) -> io::Result<()> {
     counts(out, t)?;
-    if t.differ > 0 {
+    if let Some(first) = first {
         print!(out; ", first case {first}")?;
     }
     println!(out; "")

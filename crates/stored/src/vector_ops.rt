@@ -1,64 +1,120 @@
 // The operations of the vector layer over words. An operation's number is its place in the oracle's
 // list, and 200 and on are checks that the oracle has no operation for.
 use crate::answer::Answer;
-use crate::numbers::{point, single, vector};
+use crate::lent::Case;
+use crate::op::UnknownOp;
+use std::fmt;
 use vector::geometry::{horizontal, left_normal};
 
-// How many words an operation takes, and 0 for one that is not known.
-pub fn takes(op: u32) -> usize {
-    match op {
-        20 | 26 | 203 | 207..=212 => 3,
-        202 => 4,
-        21..=24 | 200 | 201 | 204..=206 => 6,
-        25 => 8,
-        _ => 0,
+#[derive(Clone, Copy)]
+pub enum VectorOp {
+    Length,
+    Distance,
+    Dot,
+    Cross,
+    NormalizeOr,
+    RotateAbout,
+    LeftNormal,
+    VectorAdd,
+    VectorSub,
+    VectorMul,
+    VectorNeg,
+    PointSub,
+    PointAdd,
+    PointSubVector,
+    Horizontal,
+    VectorIsFinite,
+    NormalizeOrZero,
+    LengthSquared,
+    LengthBelowMicro,
+    PointIsFinite,
+}
+
+impl TryFrom<u32> for VectorOp {
+    type Error = UnknownOp;
+
+    fn try_from(number: u32) -> Result<Self, UnknownOp> {
+        Ok(match number {
+            20 => VectorOp::Length,
+            21 => VectorOp::Distance,
+            22 => VectorOp::Dot,
+            23 => VectorOp::Cross,
+            24 => VectorOp::NormalizeOr,
+            25 => VectorOp::RotateAbout,
+            26 => VectorOp::LeftNormal,
+            200 => VectorOp::VectorAdd,
+            201 => VectorOp::VectorSub,
+            202 => VectorOp::VectorMul,
+            203 => VectorOp::VectorNeg,
+            204 => VectorOp::PointSub,
+            205 => VectorOp::PointAdd,
+            206 => VectorOp::PointSubVector,
+            207 => VectorOp::Horizontal,
+            208 => VectorOp::VectorIsFinite,
+            209 => VectorOp::NormalizeOrZero,
+            210 => VectorOp::LengthSquared,
+            211 => VectorOp::LengthBelowMicro,
+            212 => VectorOp::PointIsFinite,
+            _ => return Err(UnknownOp(number)),
+        })
     }
 }
 
-// An operation on one vector or point.
-fn from_one(op: u32, given: &[u32], answer: &mut Answer) {
-    let v = vector(given, 0);
-    match op {
-        20 => answer.single(v.length()),
-        26 => answer.vector(left_normal(v)),
-        203 => answer.vector(-v),
-        207 => answer.vector(horizontal(v)),
-        208 => answer.test(v.is_finite()),
-        209 => answer.vector(v.normalize_or_zero()),
-        210 => answer.single(v.length_squared()),
-        211 => answer.test(v.length_below_micro()),
-        _ => answer.test(point(given, 0).is_finite()),
+impl fmt::Display for VectorOp {
+    fn fmt<W: fmt::Write>(&self, f: &mut fmt::Formatter<W>) -> fmt::Result {
+        f.write_str(match self {
+            VectorOp::Length => "length",
+            VectorOp::Distance => "distance",
+            VectorOp::Dot => "dot",
+            VectorOp::Cross => "cross",
+            VectorOp::NormalizeOr => "normalize_or",
+            VectorOp::RotateAbout => "rotate_about",
+            VectorOp::LeftNormal => "left_normal",
+            VectorOp::VectorAdd => "vector_add",
+            VectorOp::VectorSub => "vector_sub",
+            VectorOp::VectorMul => "vector_mul",
+            VectorOp::VectorNeg => "vector_neg",
+            VectorOp::PointSub => "point_sub",
+            VectorOp::PointAdd => "point_add",
+            VectorOp::PointSubVector => "point_sub_vector",
+            VectorOp::Horizontal => "horizontal",
+            VectorOp::VectorIsFinite => "vector_is_finite",
+            VectorOp::NormalizeOrZero => "normalize_or_zero",
+            VectorOp::LengthSquared => "length_squared",
+            VectorOp::LengthBelowMicro => "length_below_micro",
+            VectorOp::PointIsFinite => "point_is_finite",
+        })
     }
 }
 
-// An operation on two vectors or points.
-fn from_two(op: u32, given: &[u32], answer: &mut Answer) {
-    let p = point(given, 0);
-    let v = vector(given, 0);
-    let w = vector(given, 3);
-    match op {
-        21 => answer.single(p.distance_to(point(given, 3))),
-        22 => answer.single(v.dot(w)),
-        23 => answer.vector(v.cross(w)),
-        24 => answer.vector(v.normalize_or(w)),
-        200 => answer.vector(v + w),
-        201 => answer.vector(v - w),
-        204 => answer.vector(p - point(given, 3)),
-        205 => answer.point(p + w),
-        _ => answer.point(p - w),
-    }
-}
-
-// Works the operation on the words `given`, which are as many as it takes.
-pub fn work(op: u32, given: &[u32], answer: &mut Answer) {
-    match takes(op) {
-        3 => from_one(op, given, answer),
-        4 => answer.vector(vector(given, 0) * single(given, 3)),
-        6 => from_two(op, given, answer),
-        8 => {
-            let axis = vector(given, 3);
-            answer.vector(vector(given, 0).rotate_about(axis, single(given, 6), single(given, 7)));
+impl VectorOp {
+    // Works the operation on a case. There is no answer where that has not as many words as the operation takes.
+    pub fn work(self, case: &mut Case, answer: &mut Answer) -> Option<()> {
+        match self {
+            VectorOp::Length => answer.single(case.vector().length()),
+            VectorOp::Distance => answer.single(case.point().distance_to(case.point())),
+            VectorOp::Dot => answer.single(case.vector().dot(case.vector())),
+            VectorOp::Cross => answer.vector(case.vector().cross(case.vector())),
+            VectorOp::NormalizeOr => answer.vector(case.vector().normalize_or(case.vector())),
+            VectorOp::RotateAbout => answer.vector(
+                case.vector()
+                    .rotate_about(case.vector(), case.single(), case.single()),
+            ),
+            VectorOp::LeftNormal => answer.vector(left_normal(case.vector())),
+            VectorOp::VectorAdd => answer.vector(case.vector() + case.vector()),
+            VectorOp::VectorSub => answer.vector(case.vector() - case.vector()),
+            VectorOp::VectorMul => answer.vector(case.vector() * case.single()),
+            VectorOp::VectorNeg => answer.vector(-case.vector()),
+            VectorOp::PointSub => answer.vector(case.point() - case.point()),
+            VectorOp::PointAdd => answer.point(case.point() + case.vector()),
+            VectorOp::PointSubVector => answer.point(case.point() - case.vector()),
+            VectorOp::Horizontal => answer.vector(horizontal(case.vector())),
+            VectorOp::VectorIsFinite => answer.test(case.vector().is_finite()),
+            VectorOp::NormalizeOrZero => answer.vector(case.vector().normalize_or_zero()),
+            VectorOp::LengthSquared => answer.single(case.vector().length_squared()),
+            VectorOp::LengthBelowMicro => answer.test(case.vector().length_below_micro()),
+            VectorOp::PointIsFinite => answer.test(case.point().is_finite()),
         }
-        _ => {}
+        case.is_read().then_some(())
     }
 }

@@ -1,5 +1,6 @@
 -- Laws that the proofs of several functions cite.
 pub mod Copies
+mod Chunks
 mod Reporting
 mod Singles
 mod Telling

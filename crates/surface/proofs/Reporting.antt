@@ -9,15 +9,15 @@ use native.Mathlib.Omega.{arith}
 use borrow.Author.Tests.{ltb-false, lt-ltb, le-ltb}
 use lib.Dec.{ltb}
 use lib.Ieee.{Float}
-use lib.ListN.{length, take, drop, length-take}
-use lib.Seq.{take-append_seam, take_all}
+use lib.ListN.{length, take, drop, replicate, length-take, length-replicate}
+use lib.Seq.{take-append_seam}
 use Rattle.shape.specs.declared.refusal.Refusal.{Refusal}
 use Rattle.shape.specs.Gather.{least}
 use Rattle.shape.specs.Lists.{Mesh}
 use Rattle.shape.specs.Memory.{Put}
 use Rattle.shape.specs.Refusal.{fine, fault, refuse, Answer, taken, refused, judge, leaves, number_of, place_of, found, told}
 use Rattle.shape.proofs.Laws.Gather.{least_le}
-use Rattle.shape.proofs.Laws.Memory.{put_front, put_length}
+use Rattle.shape.proofs.Laws.Memory.{put_front}
 use Rattle.lookup.specs.Index.{build_of, index_room, answer_to, index_words}
 use Rattle.lookup.specs.Batch.{record_words, records_of, tops_of}
 use Rattle.surface.specs.File.{File}
@@ -34,37 +34,46 @@ use Rattle.surface.proofs.Telling.{records_length}
 
 -- ---- the front of lent memory
 
-pub front : (a : Answer ℕ) (c n : ℕ) (xs before after : List ℕ) → a ≡ taken c → n ≡ length xs → after ≡ leaves a xs before → take n after ≡ xs
+front : (a : Answer ℕ) (c n : ℕ) (xs before after : List ℕ) → a ≡ taken c → n ≡ length xs → after ≡ leaves a xs before → take n after ≡ xs
 unfolding leaves
 front a c n xs before after e f g = rw (g, e, f) (take-append_seam xs (drop (length xs) before))
 
 pub front_length : {A : Type 0} (n : ℕ) (xs after : List A) → take n after ≡ xs → n ≡ length xs → n ≡ length (take n after)
 front_length n xs after e f = f ∙ ap length (sym e)
 
-pub front_fits : {A : Type 0} (n : ℕ) (after : List A) → n ≡ length (take n after) → n ≤ length after
+front_fits : {A : Type 0} (n : ℕ) (after : List A) → n ≡ length (take n after) → n ≤ length after
 front_fits n after e = omega (arith, length-take n after)
 
 module _ {A : Type 0} {before after xs : List A} {n : ℕ} (p : Put before after 0 xs n) (h : n ≤ length before) where
   pub put_part : n ≡ length (take n after)
   put_part = front_length n xs after (put_front p h) (p.ends ∙ zero-add (length xs))
 
-  pub put_fits : n ≤ length after
-  put_fits = omega (arith, put_length p)
-
 -- ---- building
+
+-- the memory that the index, and then the records are put into
+abbrev pub lent : List ℕ
+lent = replicate 16384 0
+
+lent_length : length lent ≡ 16384
+lent_length = length-replicate {A = ℕ} 16384 0
+
+-- what a build that was taken leaves: the front of the memory is the index
+pub record Built (ws : List ℕ) (n : ℕ) (after : List ℕ) : Type 0 where
+  pub part : n ≡ length (take n after)
+  pub fits : n ≤ length after
+  pub is : take n after ≡ index_in ws
+  pub taken_so : build_of (mesh_in ws) 16384 ≡ taken (length (take n after))
 
 module _
     (ws : List ℕ)
     (few : length ws ≤ 16384)
     {m : Mesh}
     (is : m ≡ mesh_in ws)
-    (room : ℕ)
-    (e : room ≡ 16384)
     (b : Result ℕ Refusal)
-    (g : told b ≡ build_of m room)
+    (g : told b ≡ build_of m (length lent))
   where
     answer : told b ≡ build_of (mesh_in ws) 16384
-    answer = rw (← e, ← is) g
+    answer = rw (← lent_length, ← is) g
 
     pub built_refused : {r : Refusal} → b ≡ Err r → refused_line (number_of r) (place_of r) ≡ surface_text ws
     unfolding surface_text or_refused told
@@ -82,30 +91,24 @@ module _
         let h = size_refused k (ltb 4194304 k) (ltb 16384 k) (number_of r) (place_of r) (ltb-false 4194304 k) q in
         omega (arith, h)
 
-    words_are : {n : ℕ} → b ≡ Ok n → n ≡ length (index_in ws)
-    unfolding told
-    words_are z = built_size ws few (sym answer ∙ rw z)
-
-    index_is : index_words m.vertices m.indices ≡ index_in ws
-    unfolding index_in mesh_in
-    index_is = rw is
-
-    module _ {n : ℕ} (z : b ≡ Ok n) (before after : List ℕ) (l : after ≡ leaves (build_of m room) (index_words m.vertices m.indices) before) where
-      built_taken : build_of m room ≡ taken n
-      unfolding told
-      built_taken = sym g ∙ rw z
-
-      pub index_front : take n after ≡ index_in ws
-      index_front = front (build_of m room) n n (index_words m.vertices m.indices) before after built_taken (words_are z ∙ ap length (sym index_is)) l ∙ index_is
-
-      pub index_length : n ≡ length (take n after)
-      index_length = front_length n (index_in ws) after index_front (words_are z)
-
-      pub built_whole : build_of (mesh_in ws) 16384 ≡ taken (length (take n after))
-      unfolding told
-      built_whole = sym answer ∙ rw z (ap taken index_length)
+    pub built : {n : ℕ} {after : List ℕ} → b ≡ Ok n → after ≡ leaves (build_of m (length lent)) (index_words m.vertices m.indices) lent → Built ws n after
+    unfolding told index_in mesh_in
+    built {n} {after} z l =
+        let t : build_of m (length lent) ≡ taken n = sym g ∙ rw z in
+        let k : n ≡ length (index_in ws) = built_size ws few (sym answer ∙ rw z) in
+        let i : index_words m.vertices m.indices ≡ index_in ws = rw is in
+        let f : take n after ≡ index_in ws = front (build_of m (length lent)) n n (index_words m.vertices m.indices) lent after t (k ∙ ap length (sym i)) l ∙ i in
+        let p : n ≡ length (take n after) = front_length n (index_in ws) after f k in
+        record { part = p; fits = front_fits n after p; is = f; taken_so = sym answer ∙ rw z (ap taken p) }
 
 -- ---- the lookups
+
+-- what the lookups leave: the front of the memory is the records of q questions
+pub record Looked (ws : List ℕ) (q : ℕ) (after : List ℕ) : Type 0 where
+  pub most : q ≤ 2048
+  pub part : record_words * q ≡ length (take (record_words * q) after)
+  pub fits : record_words * q ≤ length after
+  pub records : take (record_words * q) after ≡ records_in ws
 
 module _
     (ws : List ℕ)
@@ -118,38 +121,30 @@ module _
     (e : index ≡ index_in ws)
     {n : ℕ}
     (t : build_of (mesh_in ws) 16384 ≡ taken n)
-    (room : ℕ)
-    (r : room ≡ 2048 * record_words)
+    (s : Result ℕ Refusal)
+    (g : told s ≡ tops_of m index ps (length lent))
   where
-    took : tops_of m index ps room ≡ taken (count_kind ws 3)
-    took = rw (is, points, e, r) (all_taken ws few t)
+    took : tops_of m index ps (length lent) ≡ taken (count_kind ws 3)
+    took = rw (is, points, e, lent_length) (all_taken ws few t)
 
     left : records_of m index ps ≡ records_in ws
     left = rw (is, points, e) (records_are ws few t)
 
-    module _ (s : Result ℕ Refusal) (g : told s ≡ tops_of m index ps room) where
-      pub asked_count : {q : ℕ} → s ≡ Ok q → q ≡ count_kind ws 3
-      unfolding told
-      asked_count {q} z = let w : taken q ≡ taken (count_kind ws 3) = sym (rw z) ∙ g ∙ took in cc
+    pub never_turned_back : {f : Refusal} → s ≡ Err f → ⊥
+    unfolding told
+    never_turned_back {f} z =
+        let q : refused (number_of f) (place_of f) ≡ taken (count_kind ws 3) = sym (rw z) ∙ g ∙ took in
+        let w : ◌≡◌ {A = ℕ} 0 1 = cc in omega arith
 
-      pub never_turned_back : {f : Refusal} → s ≡ Err f → ⊥
-      unfolding told
-      never_turned_back {f} z =
-          let q : refused (number_of f) (place_of f) ≡ taken (count_kind ws 3) = sym (rw z) ∙ g ∙ took in
-          let w : ◌≡◌ {A = ℕ} 0 1 = cc in omega arith
-
-      pub count_most : {q : ℕ} → s ≡ Ok q → q ≤ 2048
-      count_most z = omega (arith, asked_count z, kind_most ws 3 few)
-
-      module _ {q : ℕ} (z : s ≡ Ok q) (before after : List ℕ) (l : after ≡ leaves (tops_of m index ps room) (records_of m index ps) before) where
-        count_words : record_words * q ≡ length (records_of m index ps)
-        count_words = rw (left, records_length ws, asked_count z)
-
-        pub records_front : take (record_words * q) after ≡ records_in ws
-        records_front = front (tops_of m index ps room) (count_kind ws 3) (record_words * q) (records_of m index ps) before after took count_words l ∙ left
-
-        pub records_part : record_words * q ≡ length (take (record_words * q) after)
-        records_part = front_length (record_words * q) (records_in ws) after records_front (count_words ∙ ap length left)
+    pub looked : {q : ℕ} {after : List ℕ} → s ≡ Ok q → after ≡ leaves (tops_of m index ps (length lent)) (records_of m index ps) lent → Looked ws q after
+    unfolding told
+    looked {q} {after} z l =
+        let w : taken q ≡ taken (count_kind ws 3) = sym (rw z) ∙ g ∙ took in
+        let c : q ≡ count_kind ws 3 = cc in
+        let k : record_words * q ≡ length (records_of m index ps) = rw (left, records_length ws, c) in
+        let f = front (tops_of m index ps (length lent)) (count_kind ws 3) (record_words * q) (records_of m index ps) lent after took k l ∙ left in
+        let p = front_length (record_words * q) (records_in ws) after f (k ∙ ap length left) in
+        record { most = omega (arith, c, kind_most ws 3 few); part = p; fits = front_fits (record_words * q) after p; records = f }
 
 -- ---- the file
 
@@ -230,6 +225,3 @@ pub printed_text : (bs old : List ℕ) {new : List ℕ} → 204834 ≤ length ol
     → new ≡ report_of bs ++ drop (length (report_of bs)) old
 unfolding leaves
 printed_text bs old h l = l ∙ rw (report_taken bs (length old) h)
-
-pub all_of : (bs : List ℕ) (n : ℕ) → length bs ≤ n → bs ≡ take n bs
-all_of bs n h = sym (take_all n bs h)

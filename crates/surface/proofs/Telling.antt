@@ -1,14 +1,15 @@
 -- The line of a question by its record, and the lines of all. Assumes nothing.
 use mathlib.Core.Path.{◌≡◌, refl, sym, ap, ◌∙◌}
 use mathlib.Core.Bool.{cond}
-use mathlib.Core.List.{List}
+use mathlib.Core.List.{List, []}
+use Rattle.std.specs.Simd.{first_chunks}
 use Prim.Native.Nat.{ℕ, ◌+◌, ◌*◌, ◌≤◌, ◌<◌}
-use native.Mathlib.Nat.{add-zero}
 use native.Mathlib.Omega.{arith}
 use lib.Dec.{T}
 use lib.Ieee.{Float, binary32, of_bits, to_bits, fits}
 use lib.Ieee.Bits.{of_bits-to_bits}
-use lib.ListN.{length, get_or, length-append}
+use lib.ListN.{length, get_or, take, drop, length-append, length-take, length-drop}
+use lib.Seq.{ext_get_or, get_or-take, get_or-drop}
 use Rattle.vector.specs.declared.coords.Vector.{Vector}
 use Rattle.shape.specs.Gather.{gather}
 use Rattle.shape.specs.Memory.{Put}
@@ -26,10 +27,11 @@ use Rattle.surface.specs.declared.text.FoundLine.{FoundLine}
 use Rattle.surface.specs.Held.{how_many, count_kind, sizes_of, lane_in, question_at}
 use Rattle.surface.specs.Text.{digits_of, lane_text, asked_line}
 use Rattle.surface.specs.Report.{mesh_in, index_in, given, sample_at, answered, line_of, line_at, answered_at, lines_of}
-use Rattle.surface.specs.ReportSteps.{record_in, records_in, text_of, is_found, Tells, Totalled}
+use Rattle.surface.specs.ReportSteps.{record_in, records_in, Asked, text_of, is_found, Tells, Totalled}
 use Rattle.surface.proofs.Laws.Held.{how_many_next}
 use Rattle.surface.proofs.Laws.Text.{found_size, none_size}
 use Rattle.surface.proofs.Laws.Report.{kind_most}
+use Rattle.surface.proofs.Chunks.{chunk_at}
 use Rattle.surface.proofs.Singles.{single_height, single_normal}
 
 abbrev to_vector : Float → Float → Float → Vector
@@ -67,12 +69,6 @@ module _ (ws : List ℕ) where
       go (taken s) q = ap taken q
       go (refused number place) q = absurd (let z : ◌≡◌ {A = ℕ} 0 1 = cc in omega arith)
 
--- a file's words, how many records of each kind they have, and the records of their questions
-pub record Asked (ws : List ℕ) (sizes : Sizes) (rs : List ℕ) : Type 0 where
-  pub few : length ws ≤ 16384
-  pub sized : sizes ≡ sizes_of ws
-  pub records : rs ≡ records_in ws
-
 module _ {ws : List ℕ} {sizes : Sizes} {rs : List ℕ} (a : Asked ws sizes rs) where
   pub asked_are : sizes.questions ≡ count_kind ws 3
   unfolding sizes_of
@@ -84,55 +80,63 @@ module _ {ws : List ℕ} {sizes : Sizes} {rs : List ℕ} (a : Asked ws sizes rs)
   pub asked_length : length rs ≡ record_words * sizes.questions
   asked_length = ap length a.records ∙ records_length ws ∙ ap (λ (n : ℕ). record_words * n) (sym asked_are)
 
-  pub record_whole : (k : ℕ) → k < sizes.questions → record_words * k + record_words ≤ length rs
-  record_whole k h = omega (arith, asked_length)
-
   module _ {k : ℕ} (h : k < sizes.questions) where
     word_is : (j : ℕ) → j < record_words → get_or rs (record_words * k + j) 0 ≡ get_or (record_in ws k) j 0
     word_is j l = ap (λ (xs : List ℕ). get_or xs (record_words * k + j) 0) a.records ∙ word_in ws k j (omega (arith, asked_are)) l
 
-    first_is : get_or rs (record_words * k) 0 ≡ get_or (record_in ws k) 0 0
-    first_is = ap (λ (i : ℕ). get_or rs i 0) (sym (add-zero (record_words * k))) ∙ word_is 0 (omega arith)
+    -- its record
+    pub record_is : (c : ℕ) → k < c → get_or (first_chunks record_words c rs) k [] ≡ record_in ws k
+    record_is c l =
+        let n : length (take record_words (drop (record_words * k) rs)) ≡ length (record_in ws k) = rw (in_width ws k) (simp (length-take, length-drop) (omega (arith, asked_length))) in
+        chunk_at record_words c k rs [] l
+        ∙ ext_get_or 0 (take record_words (drop (record_words * k) rs)) (record_in ws k) n
+        (λ j m.
+        let q : j < record_words = omega (arith, in_width ws k) in
+        get_or-take record_words (drop (record_words * k) rs) j 0 q ∙ get_or-drop (record_words * k) rs j 0 ∙ word_is j q)
 
-    -- ---- its line
+-- ---- its line
 
-    pub tells_none : get_or rs (record_words * k) 0 ≡ 0 → Tells ws k None
-    unfolding record_in record_of text_of is_found line_at line_of answered_at answered
-    tells_none z = go (sample_at ws k) refl (sym first_is ∙ z)
-      where
-        go : (s : Sample) → sample_at ws k ≡ s → get_or (record_of (taken s)) 0 0 ≡ 0 → Tells ws k None
-        go (hit g n t d) e q = absurd (let w : ◌≡◌ {A = ℕ} 1 0 = q in omega arith)
-        go miss e q = record { text = rw e; answer = rw e }
+module _ (ws : List ℕ) (k : ℕ) {r : List ℕ} (e : r ≡ record_in ws k) where
+  word_of_it : (j : ℕ) → get_or r j 0 ≡ get_or (record_in ws k) j 0
+  word_of_it j = ap (λ (xs : List ℕ). get_or xs j 0) e
 
-    pub tells_found : (f : FoundLine) → (get_or rs (record_words * k) 0 ≡ 0 → ⊥) → f.height ≡ of_bits binary32 (get_or rs (record_words * k + 1) 0)
-        → f.normal.x ≡ of_bits binary32 (get_or rs (record_words * k + 2) 0) → f.normal.y ≡ of_bits binary32 (get_or rs (record_words * k + 3) 0)
-        → f.normal.z ≡ of_bits binary32 (get_or rs (record_words * k + 4) 0) → f.triangle ≡ get_or rs (record_words * k + 5) 0 → f.lane ≡ lane_in ws f.triangle
-        → Tells ws k (Some f)
-    unfolding record_in record_of text_of is_found line_at line_of answered_at answered
-    tells_found f z eg ex ey ez et el =
-        go (sample_at ws k) refl (λ q. z (first_is ∙ q)) (word_is 1 (omega arith)) (word_is 2 (omega arith)) (word_is 3 (omega arith))
-        (word_is 4 (omega arith)) (word_is 5 (omega arith))
-      where
-        back : (v : Float) → T (fits binary32 v) → {w u : ℕ} → w ≡ u → u ≡ to_bits binary32 v → of_bits binary32 w ≡ v
-        back v f p q = ap (of_bits binary32) (p ∙ q) ∙ of_bits-to_bits binary32 v f
+  pub tells_none : get_or r 0 0 ≡ 0 → Tells ws k None
+  unfolding record_in record_of text_of is_found line_at line_of answered_at answered
+  tells_none z = go (sample_at ws k) refl (sym (word_of_it 0) ∙ z)
+    where
+      go : (s : Sample) → sample_at ws k ≡ s → get_or (record_of (taken s)) 0 0 ≡ 0 → Tells ws k None
+      go (hit g n t d) e q = absurd (let w : ◌≡◌ {A = ℕ} 1 0 = q in omega arith)
+      go miss e q = record { text = rw e; answer = rw e }
 
-        go : (s : Sample) → sample_at ws k ≡ s → (get_or (record_of (taken s)) 0 0 ≡ 0 → ⊥)
-            → get_or rs (record_words * k + 1) 0 ≡ get_or (record_of (taken s)) 1 0 → get_or rs (record_words * k + 2) 0 ≡ get_or (record_of (taken s)) 2 0
-            → get_or rs (record_words * k + 3) 0 ≡ get_or (record_of (taken s)) 3 0 → get_or rs (record_words * k + 4) 0 ≡ get_or (record_of (taken s)) 4 0
-            → get_or rs (record_words * k + 5) 0 ≡ get_or (record_of (taken s)) 5 0 → Tells ws k (Some f)
-        go (hit i m u d) e q w1 w2 w3 w4 w5 =
-            let top = was_hit ws k e in
-            let h = single_height (mesh_in ws) (index_in ws) (question_at ws k).x (question_at ws k).y top in
-            let v = single_normal (mesh_in ws) (index_in ws) (question_at ws k).x (question_at ws k).y top in
-            let eh : f.height ≡ i = eg ∙ back i h w1 refl in
-            let mx : f.normal.x ≡ m.x = ex ∙ back m.x v.0 w2 refl in
-            let my : f.normal.y ≡ m.y = ey ∙ back m.y v.1 w3 refl in
-            let mz : f.normal.z ≡ m.z = ez ∙ back m.z v.2 w4 refl in
-            let em : f.normal ≡ m = vector f.normal m mx my mz in
-            let eu : f.triangle ≡ u = et ∙ w5 in
-            let ll : f.lane ≡ lane_in ws u = el ∙ ap (lane_in ws) eu in
-            record { text = rw (e, eh, em, eu, ll); answer = rw e }
-        go miss e q w1 w2 w3 w4 w5 = absurd (q refl)
+  pub tells_found : (f : FoundLine) → (get_or r 0 0 ≡ 0 → ⊥) → f.height ≡ of_bits binary32 (get_or r 1 0)
+      → f.normal.x ≡ of_bits binary32 (get_or r 2 0) → f.normal.y ≡ of_bits binary32 (get_or r 3 0)
+      → f.normal.z ≡ of_bits binary32 (get_or r 4 0) → f.triangle ≡ get_or r 5 0 → f.lane ≡ lane_in ws f.triangle
+      → Tells ws k (Some f)
+  unfolding record_in record_of text_of is_found line_at line_of answered_at answered
+  tells_found f z eg ex ey ez et el =
+      go (sample_at ws k) refl (λ q. z (word_of_it 0 ∙ q)) (word_of_it 1) (word_of_it 2) (word_of_it 3)
+      (word_of_it 4) (word_of_it 5)
+    where
+      back : (v : Float) → T (fits binary32 v) → {w u : ℕ} → w ≡ u → u ≡ to_bits binary32 v → of_bits binary32 w ≡ v
+      back v f p q = ap (of_bits binary32) (p ∙ q) ∙ of_bits-to_bits binary32 v f
+
+      go : (s : Sample) → sample_at ws k ≡ s → (get_or (record_of (taken s)) 0 0 ≡ 0 → ⊥)
+          → get_or r 1 0 ≡ get_or (record_of (taken s)) 1 0 → get_or r 2 0 ≡ get_or (record_of (taken s)) 2 0
+          → get_or r 3 0 ≡ get_or (record_of (taken s)) 3 0 → get_or r 4 0 ≡ get_or (record_of (taken s)) 4 0
+          → get_or r 5 0 ≡ get_or (record_of (taken s)) 5 0 → Tells ws k (Some f)
+      go (hit i m u d) e q w1 w2 w3 w4 w5 =
+          let top = was_hit ws k e in
+          let h = single_height (mesh_in ws) (index_in ws) (question_at ws k).x (question_at ws k).y top in
+          let v = single_normal (mesh_in ws) (index_in ws) (question_at ws k).x (question_at ws k).y top in
+          let eh : f.height ≡ i = eg ∙ back i h w1 refl in
+          let mx : f.normal.x ≡ m.x = ex ∙ back m.x v.0 w2 refl in
+          let my : f.normal.y ≡ m.y = ey ∙ back m.y v.1 w3 refl in
+          let mz : f.normal.z ≡ m.z = ez ∙ back m.z v.2 w4 refl in
+          let em : f.normal ≡ m = vector f.normal m mx my mz in
+          let eu : f.triangle ≡ u = et ∙ w5 in
+          let ll : f.lane ≡ lane_in ws u = el ∙ ap (lane_in ws) eu in
+          record { text = rw (e, eh, em, eu, ll); answer = rw e }
+      go miss e q w1 w2 w3 w4 w5 = absurd (q refl)
 
 -- ---- one line put, and counted
 

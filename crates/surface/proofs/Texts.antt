@@ -11,10 +11,10 @@ use lib.Seq.{sets-eq}
 use borrow.Author.Tests.{lt-ltb, le-ltb}
 use Rattle.shape.specs.Memory.{Put}
 use Rattle.shape.proofs.Laws.Memory.{put_then}
-use Rattle.surface.specs.Text.{digit, digits_of, hex_digit}
+use Rattle.surface.specs.Text.{digit, digits_of}
 
 -- bytes that are written over others are put
-pub put_over : (out bs : List ℕ) (at k : ℕ) → k ≡ length bs → at + length bs ≤ length out → Put out (put_mid at k out bs) at bs (at + length bs)
+pub put_over : {A : Type 0} (out bs : List A) (at k : ℕ) → k ≡ length bs → at + length bs ≤ length out → Put out (put_mid at k out bs) at bs (at + length bs)
 put_over out bs at k e h = record { memory = rw (e, drop-drop) (sym (sets-eq bs out at h ∙ append_assoc (take at out) bs (drop (at + length bs) out))); ends = refl }
 
 -- ---- decimal digits
@@ -35,13 +35,3 @@ digits_last m₀ m m' at q r n ten p s (suc k) h =
     let e : 10 ^ suc (suc k) ≡ 10 ^ suc k * 10 = pow-suc 10 (suc k) in
     let b : n / 10 < 10 ^ suc k = omega arith in
     rw (digits_more k n ten) (put_then (p k b) s)
-
--- ---- hexadecimal digits
-
-pub hex_low : (d : ℕ) → d < 10 → 48 + d ≡ hex_digit d
-unfolding hex_digit
-hex_low d h = rw (lt-ltb d 10 h)
-
-pub hex_high : (d : ℕ) → 10 ≤ d → 87 + d ≡ hex_digit d
-unfolding hex_digit
-hex_high d h = rw (le-ltb d 10 h)

@@ -1,15 +1,16 @@
 -- What the functions of `report` hand to each other. Definitions only. Assumes nothing.
-use Rattle.std.specs.Prelude.{ℕ, ◌≡◌, Bool, true, false, List, [], ◌∷◌, ◌++◌, length, Option, Some, None, Result}
+use Rattle.std.specs.Prelude.{ℕ, ◌≤◌, ◌≡◌, Bool, true, false, List, [], ◌∷◌, ◌++◌, length, Option, Some, None, Result}
 use Rattle.shape.specs.declared.refusal.Refusal.{Refusal}
 use Rattle.shape.specs.Gather.{gather}
 use Rattle.shape.specs.Refusal.{taken, told, leaves}
 use Rattle.lookup.specs.Index.{build_of}
 use Rattle.lookup.specs.Batch.{record_of}
+use Rattle.surface.specs.declared.held.Sizes.{Sizes}
 use Rattle.surface.specs.declared.report.LineTotals.{LineTotals}
 use Rattle.surface.specs.declared.text.FoundLine.{FoundLine}
 use Rattle.surface.specs.declared.text.PairLine.{PairLine}
 use Rattle.surface.specs.File.{copy_of}
-use Rattle.surface.specs.Held.{how_many, count_kind}
+use Rattle.surface.specs.Held.{how_many, count_kind, sizes_of}
 use Rattle.surface.specs.Text.{decimal, found_line, none_line}
 use Rattle.surface.specs.Report.{mesh_in, sample_at, line_at, answered_at, lines_of, or_refused}
 
@@ -21,6 +22,12 @@ record_in ws k = record_of (taken (sample_at ws k))
 unfoldable pub records_in : List ℕ → List ℕ
 unfolding gather record_in count_kind
 records_in ws = gather (record_in ws) (count_kind ws 3)
+
+-- a file's words and the records of its questions
+pub record Asked (ws : List ℕ) (sizes : Sizes) (rs : List ℕ) : Type 0 where
+  pub few : length ws ≤ 16384
+  pub sized : sizes ≡ sizes_of ws
+  pub records : rs ≡ records_in ws
 
 -- ---- lines
 

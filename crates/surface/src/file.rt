@@ -1,7 +1,7 @@
 // The surface file. A file is bytes and a held surface is words, eight to a record; both are judged by
 // one rule and are turned into each other, record by record.
-ghost use Rattle.std.specs.Prelude.{◌≡◌, not, ◌&&◌, ℕ, ◌+◌, ◌*◌, ◌/◌, ◌%◌, ◌≤◌, ◌<◌, eqb, List, length};
-ghost use Rattle.shape.specs.Gather.{any, least};
+ghost use Rattle.std.specs.Prelude.{◌≡◌, not, ◌&&◌, ℕ, ◌+◌, ◌*◌, ◌/◌, ◌%◌, ◌≤◌, ◌<◌, eqb, List, [], length};
+ghost use Rattle.shape.specs.Gather.{any};
 ghost use Rattle.shape.specs.Memory.{Put};
 ghost use Rattle.shape.specs.Refusal.{found, told, leaves};
 ghost use Rattle.surface.specs.File.{
@@ -20,18 +20,17 @@ ghost use Rattle.surface.specs.File.{
   held_fault,
   file_fault,
   surface_fault,
-  held_of,
-  file_of,
   words_of,
   bytes_of,
   read_of,
   write_of,
 };
-ghost use Rattle.surface.specs.Kind.{kind_from, number};
-ghost use Rattle.surface.specs.FileSteps.{sound_kind};
+ghost use Rattle.surface.specs.Kind.{kind_from, number, number_before};
+ghost use Rattle.surface.specs.FileSteps.{sound_kind, count_in, whole_in, record_in, first_of};
 
 use crate::memory::put;
 use shape::refusal::{Refusal, refuse_if};
+use std::array::from_fn;
 
 // The eight words of a record.
 #[derive(Clone, Copy)]
@@ -74,13 +73,12 @@ impl Kind {
 const RECORDS: usize = 2048;
 
 // Word i of the bytes, the low byte first.
-#[tactic(auto, unfolding(crate::specs::File::word_at))]
+#[tactic(auto, using(crate::proofs::Chunks::word_four))]
 pub(crate) fn word_at(bytes: &[u8], i: usize) -> u32
     requires { 4 * i + 4 ≤ length bytes.now }
     ensures { result ≡ word_at bytes.now i }
 {
-    let at = 4 * i;
-    u32::from_le_bytes([bytes[at], bytes[at + 1], bytes[at + 2], bytes[at + 3]])
+    u32::from_le_bytes(bytes.as_chunks().0[i])
 }
 
 // A record's bytes, from `at` of `bytes` on.
@@ -89,28 +87,10 @@ fn put_file(bytes: &mut [u8], at: usize, r: Record) -> usize
     ensures { Put bytes.old bytes.new at (encode r.words) result }
 {
     let mut next = at;
-    for j in 0..8 {
-        next = put(bytes, next, r.words[j].to_le_bytes());
+    for word in &r.words {
+        next = put(bytes, next, &word.to_le_bytes());
     }
     next
-}
-
-// ---- the codec: how a record stands in the file and how it is held, by its kind
-
-// A record of the file, as it is held.
-#[tactic(auto, using(crate::proofs::Laws::File::held_same))]
-fn held_of(r: Record) -> Record
-    ensures { result.words ≡ held_of (kind_of r.words) r.words }
-{
-    r
-}
-
-// A held record, as it stands in the file.
-#[tactic(auto, using(crate::proofs::Laws::File::file_same))]
-fn file_of(r: Record) -> Record
-    ensures { result.words ≡ file_of (kind_of r.words) r.words }
-{
-    r
 }
 
 // ---- records one after another
@@ -119,26 +99,23 @@ fn file_of(r: Record) -> Record
 trait Records: Copy {
     ghost form: { Form };
 
-    ghost count_in: { Self → ℕ };
+    // What is lent in the one form; there is nothing in the other.
+    ghost bytes: { Self → List ℕ };
 
-    ghost whole_in: { Self → ℕ };
+    ghost held: { Self → List ℕ };
 
-    ghost record_in: { Self → ℕ → List ℕ };
-
-    // How many there are, a part one counted, which has fewer words than eight.
+    // How many there are, a part one counted.
     fn count(self) -> usize
-        ensures value { result ≡ count_in self }
-        ensures near { (whole_in self ≤ result) × (result ≤ whole_in self + 1) }
-        ensures part { length (record_in self (whole_in self)) < 8 };
+        ensures { result ≡ count_in form (bytes self) (held self) };
 
     // How many of them are whole.
     fn whole(self) -> usize
-        ensures { result ≡ whole_in self };
+        ensures { result ≡ whole_in form (bytes self) (held self) };
 
     // Whole record k.
     fn record(self, k: usize) -> Record
-        requires { k < whole_in self }
-        ensures { result.words ≡ record_in self k };
+        requires { k < whole_in form (bytes self) (held self) }
+        ensures { result.words ≡ record_in form (bytes self) (held self) k };
 }
 
 // The bytes of a file, 32 to a record.
@@ -150,35 +127,25 @@ struct FileBytes<'a> {
 impl Records for FileBytes<'_> {
     ghost form = { File };
 
-    ghost count_in = { λ s. parts 32 (length s.bytes.now) };
+    ghost bytes = { λ s. s.bytes.now };
 
-    ghost whole_in = { λ s. length s.bytes.now / 32 };
+    ghost held = { λ s. [] };
 
-    ghost record_in = { λ s k. file_record s.bytes.now k };
-
-    #[tactic(auto, using(crate::proofs::Laws::Records::file_part), unfolding(crate::specs::File::parts))]
+    #[tactic(auto, unfolding(crate::specs::File::parts, crate::specs::FileSteps::count_in))]
     fn count(self) -> usize {
         self.bytes.len().div_ceil(32)
     }
 
+    #[tactic(auto, unfolding(crate::specs::FileSteps::whole_in))]
     fn whole(self) -> usize {
         self.bytes.len() / 32
     }
 
-    #[tactic(auto, using(crate::proofs::Laws::File::file_words))]
+    #[tactic(auto, using(crate::proofs::Chunks::chunk_at), unfolding(crate::specs::FileSteps::whole_in, crate::specs::FileSteps::record_in, crate::specs::File::file_record))]
     fn record(self, k: usize) -> Record {
-        let i = 8 * k;
+        let bytes = &self.bytes.as_chunks::<32>().0[k];
         Record {
-            words: [
-                word_at(self.bytes, i),
-                word_at(self.bytes, i + 1),
-                word_at(self.bytes, i + 2),
-                word_at(self.bytes, i + 3),
-                word_at(self.bytes, i + 4),
-                word_at(self.bytes, i + 5),
-                word_at(self.bytes, i + 6),
-                word_at(self.bytes, i + 7),
-            ],
+            words: from_fn(|j| word_at(bytes, j)),
         }
     }
 }
@@ -192,36 +159,24 @@ struct HeldWords<'a> {
 impl Records for HeldWords<'_> {
     ghost form = { Held };
 
-    ghost count_in = { λ s. parts 8 (length s.words.now) };
+    ghost bytes = { λ s. [] };
 
-    ghost whole_in = { λ s. length s.words.now / 8 };
+    ghost held = { λ s. s.words.now };
 
-    ghost record_in = { λ s k. held_record s.words.now k };
-
-    #[tactic(auto, using(crate::proofs::Laws::Records::held_part), unfolding(crate::specs::File::parts))]
+    #[tactic(auto, unfolding(crate::specs::File::parts, crate::specs::FileSteps::count_in))]
     fn count(self) -> usize {
         self.words.len().div_ceil(8)
     }
 
+    #[tactic(auto, unfolding(crate::specs::FileSteps::whole_in))]
     fn whole(self) -> usize {
         self.words.len() / 8
     }
 
-    #[tactic(auto, using(crate::proofs::Laws::File::held_words))]
+    #[tactic(auto, using(crate::proofs::Chunks::chunk_at), unfolding(crate::specs::FileSteps::whole_in, crate::specs::FileSteps::record_in, crate::specs::File::held_record))]
     fn record(self, k: usize) -> Record {
-        let i = 8 * k;
-        let ws = self.words;
         Record {
-            words: [
-                ws[i],
-                ws[i + 1],
-                ws[i + 2],
-                ws[i + 3],
-                ws[i + 4],
-                ws[i + 5],
-                ws[i + 6],
-                ws[i + 7],
-            ],
+            words: self.words.as_chunks().0[k],
         }
     }
 }
@@ -256,9 +211,9 @@ fn spare_used<R: Records>(kind: Kind, r: Record) -> bool
 }
 
 // The kind of a record that follows one of kind `last`, unless it is bad.
-#[tactic(auto, using(crate::proofs::Laws::Records::kind_number), unfolding(crate::specs::Kind::number_before, crate::specs::FileSteps::sound_kind, crate::specs::File::bad_record))]
+#[tactic(auto, using(crate::proofs::Laws::Records::kind_number), unfolding(crate::specs::Kind::number_before, crate::specs::Kind::kind_from, crate::specs::FileSteps::sound_kind, crate::specs::File::bad_record))]
 fn sound_kind<R: Records>(r: Record, last: Option<Kind>) -> Option<Kind>
-    ensures { result ≡ sound_kind R.form r.words last }
+    ensures { result ≡ kind_from (sound_kind R.form r.words (number_before last)) }
 {
     let kind = Kind::of(r.words[0])?;
     if Some(kind) < last || spare_used::<R>(kind, r) {
@@ -267,35 +222,37 @@ fn sound_kind<R: Records>(r: Record, last: Option<Kind>) -> Option<Kind>
     Some(kind)
 }
 
-// The first bad one of the whole records, or their number: a part one after them is bad.
-fn first_bad<R: Records>(records: R) -> usize
-    ensures { result ≡ least (bad_at R.form (R.record_in records)) (R.whole_in records) }
+// The first bad record, if there is one. One after the whole ones is a part one, and so a bad one.
+fn first_bad<R: Records>(records: R) -> Option<usize>
+    ensures { let bs = R.bytes records in let ws = R.held records in result ≡ first_of (bad_at R.form (record_in R.form bs ws)) (count_in R.form bs ws) }
 {
-    let n = records.whole();
+    let whole = records.whole();
     let mut last = None;
-    for k in 0..n {
+    for k in 0..whole {
         let Some(kind) = sound_kind::<R>(records.record(k), last) else {
-            return k;
+            return Some(k);
         };
         last = Some(kind);
     }
-    n
+    (whole < records.count()).then_some(whole)
 }
 
 // Why the records are turned back, if they are: the faults in their order. More records than the most
 // are not read.
-#[tactic(auto, unfolding(shape::specs::Refusal::found, shape::specs::Refusal::refuse, shape::specs::Refusal::number_of, shape::specs::Refusal::place_of, crate::specs::File::surface_fault, crate::specs::File::refuse_first))]
+#[tactic(auto, unfolding(shape::specs::Refusal::found, shape::specs::Refusal::refuse, shape::specs::Refusal::number_of, shape::specs::Refusal::place_of, crate::specs::File::surface_fault, crate::specs::File::refuse_first, crate::specs::FileSteps::first_of))]
 fn surface_fault<R: Records>(records: R) -> Result<(), Refusal>
-    ensures { found result ≡ surface_fault R.form (R.count_in records) (R.record_in records) }
+    ensures { let bs = R.bytes records in let ws = R.held records in found result ≡ surface_fault R.form (count_in R.form bs ws) (record_in R.form bs ws) }
 {
     let n = records.count();
     refuse_if(RECORDS < n, Refusal::Oversize(RECORDS))?;
-    let k = first_bad(records);
-    refuse_if(k < n, Refusal::BadRecord(k))
+    match first_bad(records) {
+        Some(k) => Err(Refusal::BadRecord(k)),
+        None => Ok(()),
+    }
 }
 
 // Why held words are turned back, if they are.
-#[tactic(auto, unfolding(crate::specs::File::held_fault))]
+#[tactic(auto, unfolding(crate::specs::File::held_fault, crate::specs::FileSteps::count_in, crate::specs::FileSteps::record_in))]
 pub fn held_fault(held: &[u32]) -> Result<(), Refusal>
     ensures { found result ≡ held_fault held.now }
 {
@@ -303,7 +260,7 @@ pub fn held_fault(held: &[u32]) -> Result<(), Refusal>
 }
 
 // Why a file is turned back, if it is.
-#[tactic(auto, unfolding(crate::specs::File::file_fault))]
+#[tactic(auto, unfolding(crate::specs::File::file_fault, crate::specs::FileSteps::count_in, crate::specs::FileSteps::record_in))]
 pub fn file_fault(bytes: &[u8]) -> Result<(), Refusal>
     ensures { found result ≡ file_fault bytes.now }
 {
@@ -312,7 +269,7 @@ pub fn file_fault(bytes: &[u8]) -> Result<(), Refusal>
 
 // ---- the calls
 
-// The words held of a file, to the front of `held`.
+// The words held of a file, to the front of `held`: a record of any kind is held as it stands in the file.
 fn copy_words(bytes: &[u8], held: &mut [u32])
     requires { (length bytes.now % 32 ≡ 0) × (length bytes.now / 4 ≤ length held.old) }
     ensures { Put held.old held.new 0 (words_of bytes.now) (length bytes.now / 4) }
@@ -320,7 +277,7 @@ fn copy_words(bytes: &[u8], held: &mut [u32])
     let file = FileBytes { bytes };
     let mut at = 0;
     for k in 0..file.whole() {
-        at = put(held, at, held_of(file.record(k)).words);
+        at = put(held, at, &file.record(k).words);
     }
 }
 
@@ -332,7 +289,7 @@ fn copy_bytes(held: &[u32], bytes: &mut [u8])
     let surface = HeldWords { words: held };
     let mut at = 0;
     for k in 0..surface.whole() {
-        at = put_file(bytes, at, file_of(surface.record(k)));
+        at = put_file(bytes, at, surface.record(k));
     }
 }
 

@@ -39,6 +39,7 @@ pub struct Question {
 }
 
 // Word j of record k, 0 past the end.
+#[tactic(auto, using(crate::proofs::Laws::File::word_here, crate::proofs::Laws::File::word_past))]
 fn word(bytes: &[u8], k: usize, j: usize) -> u32
     requires { (k < 2 ^ 40) × (j < 8) }
     ensures { result ≡ word_of 8 (words_of bytes.now) k j }
@@ -111,7 +112,7 @@ impl<'a> Surface<'a> {
                 self.single(k, j + 1),
                 self.single(k, j + 2),
             ];
-            at = put(out, at, three);
+            at = put(out, at, &three);
         }
     }
 
@@ -146,7 +147,7 @@ impl<'a> Surface<'a> {
                 word(self.bytes, first + t, CORNERS + 1),
                 word(self.bytes, first + t, CORNERS + 2),
             ];
-            at = put(out, at, corners);
+            at = put(out, at, &corners);
         }
     }
 
@@ -183,7 +184,7 @@ impl<'a> Surface<'a> {
         let mut at = 0;
         for k in 0..self.sizes.questions {
             let q = self.question_at(k);
-            at = put(out, at, [q.x, q.y]);
+            at = put(out, at, &[q.x, q.y]);
         }
     }
 }

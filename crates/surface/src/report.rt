@@ -11,7 +11,7 @@ ghost use Rattle.surface.specs.File.{words_of};
 ghost use Rattle.surface.specs.Held.{how_many, count_kind, points_of};
 ghost use Rattle.surface.specs.Text.{refused_line};
 ghost use Rattle.surface.specs.Report.{mesh_in, index_in, answered_at, lines_of, report_of, report_answer};
-ghost use Rattle.surface.specs.ReportSteps.{Tells, Totalled, Says, records_in, text_of, is_found, surface_text};
+ghost use Rattle.surface.specs.ReportSteps.{Asked, Tells, Totalled, Says, text_of, is_found, surface_text};
 
 use crate::file::file_fault;
 use crate::held::Surface;
@@ -38,33 +38,7 @@ fn tell_refusal(r: Refusal, text: &mut [u8]) -> Result<usize, Refusal>
     Ok(size)
 }
 
-// ---- the line of a question
-
-// What the line of question k tells, by its record, if it has an answer.
-fn line_at(surface: Surface, records: &[u32], k: usize) -> Option<FoundLine>
-    requires asked { records.now ≡ records_in (words_of surface.bytes.now) }
-    requires k_lt_questions { (k < surface.sizes.questions) × (record_words * k + record_words ≤ length records.now) }
-    ensures { Tells (words_of surface.entry.bytes.now) k result }
-{
-    let at = RECORD_WORDS * k;
-    if records[at] == 0 {
-        return None;
-    }
-    let height = from_bits32(records[at + 1]);
-    let normal = Vector {
-        x: from_bits32(records[at + 2]),
-        y: from_bits32(records[at + 3]),
-        z: from_bits32(records[at + 4]),
-    };
-    let triangle = records[at + 5];
-    let lane = surface.lane_of(triangle as usize);
-    Some(FoundLine {
-        height,
-        normal,
-        triangle,
-        lane,
-    })
-}
+// ---- one line
 
 // The line of question k, from `at` on.
 #[tactic(auto, using(crate::proofs::Telling::found_long, crate::proofs::Telling::none_long), unfolding(crate::specs::ReportSteps::text_of, crate::specs::ReportSteps::is_found))]
@@ -77,8 +51,6 @@ fn put_line(out: &mut [u8], at: usize, k: usize, line: Option<FoundLine>) -> usi
         None => put_none(out, at, k as u32),
     }
 }
-
-// ---- all lines
 
 // How long lines are together, and how many of them tell an answer.
 #[derive(Clone, Copy)]
@@ -105,87 +77,125 @@ fn counted(totals: LineTotals, k: usize, line: Option<FoundLine>) -> LineTotals
     }
 }
 
-// The lines of all questions.
-fn tally(surface: Surface, records: &[u32]) -> LineTotals
-    requires { records.now ≡ records_in (words_of surface.bytes.now) }
-    ensures { Totalled (words_of surface.entry.bytes.now) result }
-{
-    let mut totals = LineTotals { size: 0, found: 0 };
-    for k in 0..surface.sizes.questions {
-        totals = counted(totals, k, line_at(surface, records, k));
+// ---- the answers
+
+// A surface whose questions are answered, by a record for each.
+#[derive(Clone, Copy)]
+struct Answered<'a> {
+    surface: Surface<'a>,
+    records: &'a [u32],
+    ghost asked: { Asked (words_of surface.bytes.now) surface.sizes records.now },
+    ghost whole: { length records.now ≡ record_words * surface.sizes.questions },
+}
+
+impl Answered<'_> {
+    // What the line of question k tells, by its record, if it has an answer.
+    fn line_at(self, k: usize) -> Option<FoundLine>
+        requires { k < self.surface.sizes.questions }
+        ensures { Tells (words_of self.entry.surface.bytes.now) k result }
+    {
+        let [found, height, x, y, z, triangle, _, _] = self
+            .records
+            .as_chunks::<RECORD_WORDS>()
+            .0[k];
+        if found == 0 {
+            return None;
+        }
+        let normal = Vector {
+            x: from_bits32(x),
+            y: from_bits32(y),
+            z: from_bits32(z),
+        };
+        let lane = self.surface.lane_of(triangle as usize);
+        Some(FoundLine {
+            height: from_bits32(height),
+            normal,
+            triangle,
+            lane,
+        })
     }
-    totals
-}
 
-// The lines of all questions, and the last line.
-fn put_lines(surface: Surface, records: &[u32], found: u32, out: &mut [u8]) -> usize
-    requires asked { records.now ≡ records_in (words_of surface.bytes.now) }
-    requires found_value { let ws = words_of surface.bytes.now in found ≡ how_many (answered_at ws) (count_kind ws 3) }
-    requires bytes_in_bounds { length (lines_of (words_of surface.bytes.now)) ≤ length out.old }
-    ensures { Put out.old out.new 0 (lines_of (words_of surface.entry.bytes.now)) result }
-{
-    let n = surface.sizes.questions;
-    let mut at = 0;
-    for k in 0..n {
-        at = put_line(out, at, k, line_at(surface, records, k));
+    // The lines of all questions.
+    fn tally(self) -> LineTotals
+        ensures { Totalled (words_of self.entry.surface.bytes.now) result }
+    {
+        let mut totals = LineTotals { size: 0, found: 0 };
+        for k in 0..self.surface.sizes.questions {
+            totals = counted(totals, k, self.line_at(k));
+        }
+        totals
     }
-    PairLine::asked(n as u32, found).put(out, at)
+
+    // The lines of all questions, and the last line.
+    fn put_lines(self, found: u32, out: &mut [u8]) -> usize
+        requires found_value { let ws = words_of self.surface.bytes.now in found ≡ how_many (answered_at ws) (count_kind ws 3) }
+        requires bytes_in_bounds { length (lines_of (words_of self.surface.bytes.now)) ≤ length out.old }
+        ensures { Put out.old out.new 0 (lines_of (words_of self.entry.surface.bytes.now)) result }
+    {
+        let n = self.surface.sizes.questions;
+        let mut at = 0;
+        for k in 0..n {
+            at = put_line(out, at, k, self.line_at(k));
+        }
+        PairLine::asked(n as u32, found).put(out, at)
+    }
+
+    // The text. Its length is known before any of it is written.
+    fn tell(self, text: &mut [u8]) -> Result<usize, Refusal>
+        ensures { Says (lines_of (words_of self.entry.surface.bytes.now)) text.old text.new result }
+    {
+        let totals = self.tally();
+        let last = PairLine::asked(self.surface.sizes.questions as u32, totals.found);
+        let wanted = totals.size + last.length();
+        refuse_if(text.len() < wanted, Refusal::ShortOutput(wanted))?;
+        self.put_lines(totals.found, text);
+        Ok(wanted)
+    }
 }
 
-// The text of the questions' records. Its length is known before any of it is written.
-fn tell_lines(surface: Surface, records: &[u32], text: &mut [u8]) -> Result<usize, Refusal>
-    requires { records.now ≡ records_in (words_of surface.bytes.now) }
-    ensures { Says (lines_of (words_of surface.entry.bytes.now)) text.old text.new result }
-{
-    let totals = tally(surface, records);
-    let last = PairLine::asked(surface.sizes.questions as u32, totals.found);
-    let wanted = totals.size + last.length();
-    refuse_if(text.len() < wanted, Refusal::ShortOutput(wanted))?;
-    put_lines(surface, records, totals.found, text);
-    Ok(wanted)
+// ---- from the file to the answers
+
+// A surface whose mesh and questions' points stand in lists.
+#[derive(Clone, Copy)]
+struct Unpacked<'a> {
+    surface: Surface<'a>,
+    mesh: Mesh<'a>,
+    points: &'a [f32],
+    ghost meshed: { lists_of mesh ≡ mesh_in (words_of surface.bytes.now) },
+    ghost pointed: { points.now ≡ points_of (words_of surface.bytes.now) },
 }
 
-// ---- from the file to the records
+impl Unpacked<'_> {
+    // The text, by an index that was built of the mesh: all questions are asked at once.
+    fn tell_answers(self, index: &[u32], text: &mut [u8]) -> Result<usize, Refusal>
+        requires index_value { index.now ≡ index_in (words_of self.surface.bytes.now) }
+        requires bytes_value { build_of (mesh_in (words_of self.surface.bytes.now)) 16384 ≡ taken (length index.now) }
+        ensures { Says (lines_of (words_of self.entry.surface.bytes.now)) text.old text.new result }
+    {
+        let mut records = [0u32; 2048 * RECORD_WORDS];
+        // An index is never foreign to the mesh that it was built from (`all_taken`).
+        let n = tops(self.mesh, index, self.points, &mut records)?;
+        let answered = Answered {
+            surface: self.surface,
+            records: &records[..RECORD_WORDS * n],
+        };
+        answered.tell(text)
+    }
 
-// The text of a mesh that its index was built of: all questions are asked at once.
-fn tell_answers(
-    surface: Surface,
-    mesh: Mesh,
-    points: &[f32],
-    index: &[u32],
-    text: &mut [u8],
-) -> Result<usize, Refusal>
-    requires mesh_value { lists_of mesh ≡ mesh_in (words_of surface.bytes.now) }
-    requires points_value { points.now ≡ points_of (words_of surface.bytes.now) }
-    requires index_value { index.now ≡ index_in (words_of surface.bytes.now) }
-    requires bytes_value { build_of (mesh_in (words_of surface.bytes.now)) 16384 ≡ taken (length index.now) }
-    ensures { Says (lines_of (words_of surface.entry.bytes.now)) text.old text.new result }
-{
-    let mut records = [0u32; 2048 * RECORD_WORDS];
-    // An index is never foreign to the mesh that it was built from (`all_taken`).
-    let n = tops(mesh, index, points, &mut records)?;
-    tell_lines(surface, &records[..RECORD_WORDS * n], text)
-}
-
-// The text of a mesh and its questions.
-fn tell_mesh(
-    surface: Surface,
-    mesh: Mesh,
-    points: &[f32],
-    text: &mut [u8],
-) -> Result<usize, Refusal>
-    requires mesh_value { lists_of mesh ≡ mesh_in (words_of surface.bytes.now) }
-    requires points_value { points.now ≡ points_of (words_of surface.bytes.now) }
-    ensures { Says (surface_text (words_of surface.entry.bytes.now)) text.old text.new result }
-{
-    let mut index = [0u32; 16384];
-    match build(mesh, &mut index) {
-        Err(r) => tell_refusal(r, text),
-        Ok(n) => tell_answers(surface, mesh, points, &index[..n], text),
+    // The text: the index is built first.
+    fn tell(self, text: &mut [u8]) -> Result<usize, Refusal>
+        ensures { Says (surface_text (words_of self.entry.surface.bytes.now)) text.old text.new result }
+    {
+        let mut index = [0u32; 16384];
+        match build(self.mesh, &mut index) {
+            Err(r) => tell_refusal(r, text),
+            Ok(n) => self.tell_answers(&index[..n], text),
+        }
     }
 }
 
 // The text of a file that is sound.
+#[tactic(auto, using(crate::proofs::Reporting::put_part, shape::proofs::Laws::Memory::put_front), unfolding(crate::specs::Report::mesh_in))]
 fn tell_surface(surface: Surface, text: &mut [u8]) -> Result<usize, Refusal>
     ensures { Says (surface_text (words_of surface.entry.bytes.now)) text.old text.new result }
 {
@@ -206,7 +216,12 @@ fn tell_surface(surface: Surface, text: &mut [u8]) -> Result<usize, Refusal>
         indices: &indices[..i],
         spans: &[],
     };
-    tell_mesh(surface, mesh, &points[..q], text)
+    let unpacked = Unpacked {
+        surface,
+        mesh,
+        points: &points[..q],
+    };
+    unpacked.tell(text)
 }
 
 // ---- the calls

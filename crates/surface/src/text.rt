@@ -8,16 +8,6 @@ use crate::memory::put;
 use rounding::bits::stored_word;
 use vector::coords::Vector;
 
-// Bytes as they are.
-pub(crate) fn put_bytes(out: &mut [u8], at: usize, bytes: &[u8]) -> usize
-    requires { at + length bytes.now ≤ length out.old }
-    ensures { Put out.old out.new at bytes.now result }
-{
-    let end = at + bytes.len();
-    out[at..end].copy_from_slice(bytes);
-    end
-}
-
 // ---- numbers
 
 // A number in decimal, with no leading zero: what comes before its last digit, if anything does, and
@@ -27,10 +17,10 @@ fn put_decimal(out: &mut [u8], at: usize, n: u32) -> usize
     ensures { (k : ℕ) → n < 10 ^ suc k → Put out.old out.new at (digits_of k n) result }
 {
     if n < 10 {
-        return put(out, at, [(48 + n) as u8]);
+        return put(out, at, &[b'0' + n as u8]);
     }
     let next = put_decimal(out, at, n / 10);
-    put(out, next, [(48 + n % 10) as u8])
+    put(out, next, &[b'0' + (n % 10) as u8])
 }
 
 #[tactic(auto, unfolding(crate::specs::Text::hex_digit))]
@@ -38,11 +28,7 @@ fn hex_digit(d: u32) -> u8
     requires { d < 16 }
     ensures { result ≡ hex_digit d }
 {
-    if d < 10 {
-        (48 + d) as u8
-    } else {
-        (87 + d) as u8
-    }
+    char::from_digit(d, 16).unwrap() as u8
 }
 
 // A word in hexadecimal, in eight digits.
@@ -61,7 +47,7 @@ fn put_hexadecimal(out: &mut [u8], at: usize, w: u32) -> usize
         hex_digit(w / 0x10 % 16),
         hex_digit(w % 16),
     ];
-    put(out, at, digits)
+    put(out, at, &digits)
 }
 
 // ---- a word and what comes after it
@@ -71,7 +57,7 @@ fn put_number(out: &mut [u8], at: usize, word: &[u8], n: u32) -> usize
     ensures put { Put out.old out.new at (word.now ++ decimal n) result }
     ensures value { result ≡ at + length word.now + length (decimal n) }
 {
-    let next = put_bytes(out, at, word);
+    let next = put(out, at, word);
     put_decimal(out, next, n)
 }
 
@@ -81,10 +67,11 @@ fn put_float(out: &mut [u8], at: usize, word: &[u8], x: f32) -> usize
     ensures put { Put out.old out.new at (word.now ++ hexadecimal (stored_of x)) result }
     ensures value { result ≡ at + length word.now + 8 }
 {
-    let next = put_bytes(out, at, word);
+    let next = put(out, at, word);
     put_hexadecimal(out, next, stored_word(x))
 }
 
+#[tactic(auto, using(shape::proofs::Laws::Memory::put_then), unfolding(crate::specs::Text::normal_text))]
 fn put_normal(out: &mut [u8], at: usize, n: Vector) -> usize
     requires { at + 34 ≤ length out.old }
     ensures put { Put out.old out.new at (normal_text n) result }
@@ -103,7 +90,7 @@ fn put_lane(out: &mut [u8], at: usize, lane: Option<u32>) -> usize
 {
     match lane {
         Some(id) => put_number(out, at, b" lane ", id),
-        None => put_bytes(out, at, b" lane -"),
+        None => put(out, at, b" lane -"),
     }
 }
 
@@ -131,7 +118,7 @@ impl FoundLine {
         let at = put_normal(out, at, self.normal);
         let at = put_number(out, at, b" triangle ", self.triangle);
         let at = put_lane(out, at, self.lane);
-        put_bytes(out, at, b"\n")
+        put(out, at, b"\n")
     }
 
     // How long that is. Its words and floats take 64 bytes.
@@ -143,12 +130,13 @@ impl FoundLine {
 }
 
 // That question k has no answer.
+#[tactic(auto, using(shape::proofs::Laws::Memory::put_then), unfolding(crate::specs::Text::none_line))]
 pub(crate) fn put_none(out: &mut [u8], at: usize, k: u32) -> usize
     requires { at + 9 + length (decimal k) ≤ length out.old }
     ensures { Put out.old out.new at (none_line k) result }
 {
     let at = put_number(out, at, b"at ", k);
-    put_bytes(out, at, b" none\n")
+    put(out, at, b" none\n")
 }
 
 // A line of two words, each with a number.
@@ -196,7 +184,7 @@ impl PairLine<'_> {
     {
         let at = put_number(out, at, self.first, self.n);
         let at = put_number(out, at, self.second, self.m);
-        put_bytes(out, at, b"\n")
+        put(out, at, b"\n")
     }
 
     // How long that is.
@@ -211,16 +199,11 @@ impl PairLine<'_> {
 // ---- how long they are
 
 // A number in decimal.
+#[tactic(auto, using(crate::proofs::Laws::Text::digits_long))]
 fn decimal_length(n: u32) -> usize
     ensures { (result ≡ length (decimal n)) × (result ≤ 10) }
 {
-    let mut rest = n;
-    let mut count: usize = 1;
-    while 9 < rest {
-        rest = rest / 10;
-        count += 1;
-    }
-    count
+    1 + n.max(1).ilog10() as usize
 }
 
 // What is said of a lane.

@@ -274,7 +274,7 @@ impl Vector {
     fn is_zero(self) -> bool
         ensures { result ≡ is_zero self }
     {
-        self.x == 0.0 && self.y == 0.0 && self.z == 0.0
+        self == Vector::ZERO
     }
 
     // This vector turned about the unit vector k: Rodrigues' rotation.

@@ -40,6 +40,12 @@ unfolding fold_of
 fold_on c f start seq m zero = rw (add-zero m)
 fold_on c f start seq m (suc n) = rw (add-suc m n, fold_on c f start seq m n)
 
+-- and it is the same over sequences that agree below n
+pub fold_same : {B : Type 0} (c : ℕ → Bool) (f : B → ℕ → B) (start : B) (p q : ℕ → ℕ) (n : ℕ) → ((k : ℕ) → k < n → p k ≡ q k) → fold_of c f start p n ≡ fold_of c f start q n
+unfolding fold_of
+fold_same c f start p q zero e = refl
+fold_same c f start p q (suc n) e = rw (fold_same c f start p q n (λ k l. e k (omega arith)), e n (omega arith))
+
 -- ---- a rising run
 
 -- a run of `len` numbers below n that rises and names each number that counts

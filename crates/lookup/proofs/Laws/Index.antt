@@ -48,7 +48,7 @@ record Sound (f : Frame) : Type 0 where
   width : Width f.cell
   cell_is : back f.cell ≡ f.cell
 
-entries_fine : (ws : List ℕ) (count from k : ℕ) → ((i : ℕ) → i < k → word_at ws (from + i) < count) → entry_fault ws count from k ≡ fine
+pub entries_fine : (ws : List ℕ) (count from k : ℕ) → ((i : ℕ) → i < k → word_at ws (from + i) < count) → entry_fault ws count from k ≡ fine
 entries_fine ws count from zero h = entry_none ws count from
 entries_fine ws count from (suc k) h = entry_step ws count from k (entries_fine ws count from k (λ i l. h i (omega arith))) (h k (omega arith))
 

@@ -13,7 +13,7 @@ use Rattle.lookup.specs.Plain.{higher_of, scan_by, scan_of}
 use Rattle.lookup.proofs.Laws.Fold.{Names, same_counted, same_fold}
 
 -- what holds of each number below n, and of n, holds of each below suc n
-upto : (P : ℕ → Type 0) (n : ℕ) → ((q : ℕ) → q < n → P q) → P n → (q : ℕ) → q < suc n → P q
+pub upto : (P : ℕ → Type 0) (n : ℕ) → ((q : ℕ) → q < n → P q) → P n → (q : ℕ) → q < suc n → P q
 upto P n f p q h = go (dec_lt q n)
   where
     go : Dec (q < n) → P q

@@ -29,7 +29,8 @@ use Rattle.shape.specs.declared.memory.Lengths.{Lengths}
 use Rattle.shape.specs.Ears.{up_to, ears_of}
 use Rattle.shape.proofs.Laws.Ears.{up_to_length}
 use Rattle.shape.proofs.Laws.Memory.{put_none, put_then, put_turn}
-use Rattle.shape.proofs.Laws.MeshMemory.{Fits, room_fits, or_refuse, mesh_left, mesh_stays, ground_fault, ground_room}
+use Rattle.shape.proofs.Laws.MeshMemory.{Fits, room_fits, mesh_left, mesh_stays, ground_fault, ground_room}
+use Rattle.shape.proofs.Laws.Refusal.{else_refuse}
 
 -- ---- parts
 
@@ -275,7 +276,7 @@ module _ (g : Ground) where
       (refuse (uneven 3 g.ring) 2 0
       (refuse (grid_ragged g.rows (length g.left) (length g.right)) 2 1 fine)))
   unfolding ground_input ground_limits ground_ragged or_else
-  ground_input_written_out = rw (or_refuse, or_refuse)
+  ground_input_written_out = rw (else_refuse, else_refuse)
 
   pub ground_answer_written_out : (v n : List Float) (i : List ℕ)
       → ground_answer g (mesh_lists v n i [])

@@ -1,7 +1,8 @@
 -- Runs of stores: one after another, and read back from the front. Assumes nothing.
 use Rattle.std.specs.Prelude.{◌≡◌, ℕ, suc, ◌+◌, ◌<◌, ◌≤◌, List, [], ◌∷◌, ◌++◌, length, take, drop, set, get_or, refl}
-use Rattle.std.proofs.Common.{sym, ap, ◌∙◌, add-zero, add-one, zero-add, add-suc, suc-add, arith, length-append}
+use Rattle.std.proofs.Common.{sym, ap, ◌∙◌, add-zero, add-one, zero-add, add-suc, suc-add, arith, length-append, append_assoc, drop-drop}
 use Rattle.std.proofs.lemmas.List.Edits.{sets, sets-eq}
+use borrow.Rule.Slice.PartMut.{put_mid}
 use Rattle.std.proofs.Math.Seq.{length-sets, take-append_seam, take-suc}
 use Rattle.shape.specs.Gather.{gather}
 use Rattle.shape.specs.Memory.{Put}
@@ -44,6 +45,12 @@ module _ {A : Type 0} where
   put_element xs m₀ m at i d h p =
       let e : at + (i + 1) ≡ at + i + 1 = omega arith in
       rw (e, add-one i, take-suc xs i d h) (put_then p (put_one m (at + i) (get_or xs i d)))
+
+  -- a list copied over others is put
+  pub put_over : (out : List A) (at k : ℕ) {xs ys : List A} {next : ℕ} → ys ≡ xs → k ≡ length xs → next ≡ at + length xs → at + length xs ≤ length out
+      → Put out (put_mid at k out ys) at xs next
+  put_over out at k {xs} e n p h =
+      record { memory = rw (e, n, drop-drop) (sym (sets-eq xs out at h ∙ append_assoc (take at out) xs (drop (at + length xs) out))); ends = p }
 
   -- one turn of a loop that puts what f gathers
   pub put_turn : (f : ℕ → List A) (i : ℕ) {m₀ m m' : List A} {at q q' : ℕ} → Put m₀ m at (gather f i) q → Put m m' q (f i) q'

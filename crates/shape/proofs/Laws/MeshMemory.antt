@@ -6,39 +6,32 @@ use Rattle.std.proofs.Math.Decide.{dec_lt}
 use borrow.Author.Tests.{ltb-false, lt-ltb, le-ltb}
 use Rattle.shape.specs.declared.memory.Lengths.{Lengths}
 use Rattle.shape.specs.declared.refusal.Refusal.{Refusal}
-use Rattle.shape.specs.Refusal.{Fault, fine, fault, found, refuse, or_else, Answer, taken, refused, leaves}
+use Rattle.shape.specs.Refusal.{Fault, fine, found, refuse, or_else, Answer, taken, refused, leaves}
 use Rattle.shape.specs.Memory.{Put}
 use Rattle.shape.specs.Lists.{Mesh, mesh_lists}
 use Rattle.shape.specs.MeshMemory.{lengths_of, result_limits, result_short, room_fault, leaves_mesh}
 use Rattle.shape.proofs.Laws.Memory.{sets_front}
+use Rattle.shape.proofs.Laws.Refusal.{passed, else_passed, else_faulty, else_fine, else_refuse}
 
--- ---- faults that are not there
+-- ---- faults that are not there, by the laws of a single fault
 
 pub first_fine : (b : Bool) (n p : ℕ) (after : Fault) → refuse b n p after ≡ fine → (b ≡ false) × (after ≡ fine)
-unfolding refuse
-first_fine false n p after e = (refl, e)
-first_fine true n p after e = absurd (let z : ◌≡◌ {A = ℕ} 0 1 = cc in omega arith)
+first_fine = passed
 
 pub both_fine : (a b : Fault) → or_else a b ≡ fine → (a ≡ fine) × (b ≡ fine)
-unfolding or_else
-both_fine fine b e = (refl, e)
-both_fine (fault n p) b e = absurd (let z : ◌≡◌ {A = ℕ} 0 1 = cc in omega arith)
+both_fine = else_passed
 
 -- a check in two parts: the first finds something, or nothing
 module _ (k : Result Unit Refusal) (a b : Fault) (e : found k ≡ a) where
   pub fault_first : {r : Refusal} → k ≡ Err r → found (Err r) ≡ or_else a b
-  unfolding found or_else
-  fault_first h = rw (← e, h)
+  fault_first h = else_faulty b e h
 
   pub fault_then : (l : Result Unit Refusal) → k ≡ Ok tt → found l ≡ b → found l ≡ or_else a b
-  unfolding found or_else
-  fault_then l h x = rw (← e, h) x
+  fault_then l h x = else_fine b e h x
 
 -- two parts of a fault order are one chain
 pub or_refuse : (b : Bool) (n p : ℕ) (x y : Fault) → or_else (refuse b n p x) y ≡ refuse b n p (or_else x y)
-unfolding or_else refuse
-or_refuse true n p x y = refl
-or_refuse false n p x y = refl
+or_refuse = else_refuse
 
 -- a test that stands twice
 again : (b : Bool) (n p : ℕ) (x : Fault) → refuse b n p (refuse b n p x) ≡ refuse b n p x
@@ -63,15 +56,15 @@ module _ (made lent : Lengths) where
   pub room_fits : room_fault made lent ≡ fine → Fits made lent
   unfolding room_fault result_limits result_short
   room_fits e =
-      let p = both_fine (result_limits made) (result_short made lent) e in
-      let a = first_fine (nat_lt (3 * 65536) made.vertices) _ _ _ p.0 in
-      let b = first_fine (nat_lt (3 * 65536) made.normals) _ _ _ a.1 in
-      let c = first_fine (nat_lt 196608 made.indices) _ _ _ b.1 in
-      let d = first_fine (nat_lt (5 * 1024) made.spans) _ _ _ c.1 in
-      let q = first_fine (nat_lt lent.vertices made.vertices) _ _ _ p.1 in
-      let r = first_fine (nat_lt lent.normals made.normals) _ _ _ q.1 in
-      let s = first_fine (nat_lt lent.indices made.indices) _ _ _ r.1 in
-      let t = first_fine (nat_lt lent.spans made.spans) _ _ _ s.1 in
+      let p = else_passed (result_limits made) (result_short made lent) e in
+      let a = passed (nat_lt (3 * 65536) made.vertices) _ _ _ p.0 in
+      let b = passed (nat_lt (3 * 65536) made.normals) _ _ _ a.1 in
+      let c = passed (nat_lt 196608 made.indices) _ _ _ b.1 in
+      let d = passed (nat_lt (5 * 1024) made.spans) _ _ _ c.1 in
+      let q = passed (nat_lt lent.vertices made.vertices) _ _ _ p.1 in
+      let r = passed (nat_lt lent.normals made.normals) _ _ _ q.1 in
+      let s = passed (nat_lt lent.indices made.indices) _ _ _ r.1 in
+      let t = passed (nat_lt lent.spans made.spans) _ _ _ s.1 in
       record {
         few_vertices = ltb-false 196608 made.vertices a.0;
         few_normals = ltb-false 196608 made.normals b.0;
@@ -138,7 +131,7 @@ strips_room v i s lent = once (nat_lt (3 * 65536) v) (nat_lt 196608 i) (nat_lt (
     once : (a b c : Bool) (after : Fault)
         → or_else (refuse a 1 65536 (refuse a 1 65536 (refuse b 1 196608 (refuse c 1 1024 fine)))) after
         ≡ refuse a 1 65536 (refuse b 1 196608 (refuse c 1 1024 after))
-    once a b c after = rw (or_refuse a, or_refuse a, or_refuse b, or_refuse c) (again a 1 65536 _)
+    once a b c after = rw (else_refuse a, else_refuse a, else_refuse b, else_refuse c) (again a 1 65536 _)
 
 unfoldable pub ground_fault : ℕ → ℕ → ℕ → ℕ → Fault
 ground_fault many v n i =

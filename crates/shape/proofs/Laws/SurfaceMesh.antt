@@ -10,7 +10,8 @@ use Rattle.shape.specs.Refusal.{Fault, fine, fault, refuse, or_else, Answer, tak
 use Rattle.shape.specs.Lists.{word_of, longer, uneven, run_bad, run_long, Mesh}
 use Rattle.shape.specs.Strip.{Lane, kept, no_area, six_of, ups_of, triangle_of, segment_of, vertices_at, normals_at, indices_at, vertices_of, normals_of, indices_of}
 use Rattle.shape.specs.SurfaceMesh.{Given, lanes_of, lane_at, lane_vertices, lane_normals, lane_indices, lane_span, span_of, base_of, index_of, mesh_of, lane_limits, runs_ragged, lane_ragged, input_fault, counts_of, call_fault, answer_of}
-use Rattle.shape.proofs.Laws.MeshMemory.{or_refuse, result_fault, strips_room}
+use Rattle.shape.proofs.Laws.MeshMemory.{result_fault, strips_room}
+use Rattle.shape.proofs.Laws.Refusal.{else_refuse}
 use Rattle.shape.proofs.Laws.Gather.{gather_next, gather_fits, gather_even, gather_same, gather_at, Owner, gather_owner, Multiple, gather_multiple}
 
 judge_or : {A : Type 0} (a b : Fault) (x : Answer A) → judge (or_else a b) x ≡ judge a (judge b x)
@@ -226,7 +227,7 @@ module _ (g : Given) where
       (refuse (any (run_bad 10 5 g.lanes (length g.widths)) n) 2 4
       (refuse (any (run_bad 10 7 g.lanes (length g.banks / 2)) n) 2 4 fine)))))))))))))
   unfolding input_fault lane_limits lane_ragged runs_ragged or_else
-  input_written_out = rw (or_refuse, or_refuse, or_refuse, or_refuse, or_refuse)
+  input_written_out = rw (else_refuse, else_refuse, else_refuse, else_refuse, else_refuse)
 
   pub answer_written_out : (before : Mesh)
       → answer_of g before

@@ -9,6 +9,7 @@ use Rattle.shape.specs.Gather.{gather, least}
 use Rattle.shape.specs.Lists.{word_of}
 use Rattle.shape.specs.Refusal.{Fault, fine, fault, refuse, Answer, taken, judge}
 use Rattle.shape.proofs.Laws.Gather.{gather_even, gather_at, or_left}
+use Rattle.lookup.proofs.Laws.Limits.{judged}
 use Rattle.surface.specs.File.{Form, File, Held}
 use Rattle.surface.specs.File.{word_at, decode, four_bytes, encode, kind_of, by_kind, spares, spare, spare_used, bad_record, bad_at, refuse_first, surface_fault, parts, held_record, file_record, held_fault, file_fault, held_of, file_of, held_at, file_at, words_of, bytes_of, copy_of, read_of, write_of}
 
@@ -374,11 +375,6 @@ whole_held ws e =
     )
 
 -- ---- the calls
-
-judged : {A : Type 0} (f : Fault) (after : Answer A) (a : A) → judge f after ≡ taken a → (f ≡ fine) × (after ≡ taken a)
-unfolding judge
-judged fine after a e = (refl, e)
-judged (fault number place) after a e = absurd (let z : ◌≡◌ {A = ℕ} 0 1 = cc in omega arith)
 
 fine_goes_on : {A : Type 0} (f : Fault) (after : Answer A) → f ≡ fine → judge f after ≡ after
 unfolding judge

@@ -1,5 +1,6 @@
 -- Laws behind the judging of records: how many there are, and the kind that is kept from one to the next. Assumes nothing.
 use Rattle.std.specs.Prelude.{◌≡◌, Bool, not, ◌||◌, List, Option, Some, None, ltb, length, get_or, take, drop}
+use Rattle.std.specs.Bool.{then_some}
 use Rattle.std.proofs.Math.Path.{refl, sym}
 use Rattle.std.proofs.Common.{ap, ◌∙◌, mul-le-mul_left, length-take, length-drop}
 use Rattle.std.proofs.Math.Bool.{true, false, cond}
@@ -11,13 +12,13 @@ use native.Mathlib.Omega.{arith}
 use borrow.Author.Tests.{lt-ltb, le-ltb, eq-eqb, ne_eqb, eqb-true}
 use Rattle.std.proofs.Math.Dec.{eqb}
 use Rattle.shape.specs.Gather.{any, least}
-use Rattle.shape.proofs.Laws.Gather.{any_next, any_none, least_at, least_none}
-use Rattle.surface.specs.File.{Form}
+use Rattle.shape.proofs.Laws.Gather.{any_next, any_none, least_found, least_past}
+use Rattle.surface.specs.File.{Form, File, Held}
 use Rattle.surface.specs.File.{kind_of, by_kind, spares, spare, spare_used, bad_record, kind_before, bad_at, parts, held_record, file_record, held_of, file_of, held_at, file_at}
 use Rattle.surface.specs.declared.file.Kind.{Kind}
 use Rattle.surface.specs.declared.file.Kind.TheVariants.{Vertex, Triangle, Question}
 use Rattle.surface.specs.Kind.{number, kind_from, number_before}
-use Rattle.surface.specs.FileSteps.{sound_kind}
+use Rattle.surface.specs.FileSteps.{sound_kind, count_in, whole_in, record_in, first_of}
 use Rattle.surface.proofs.Laws.File.{decode_length, held_same, file_same}
 
 -- ---- how many there are
@@ -78,7 +79,7 @@ module _ (form : Form) (kind j : ℕ) (h : j < 8) where
   unfolding spare spares by_kind any
   spare_question n₁ n₂ = rw (ne_eqb kind 1 n₁, ne_eqb kind 2 n₂) (by_table (spares form 3) (ltb 2) refl j h)
 
--- ---- the kind of a sound record
+-- ---- the kind of a sound record, and 0 of a bad one
 
 or_some : (a b : Bool) → a ≡ true → (a || b) ≡ true
 or_some a b e = rw e
@@ -87,38 +88,7 @@ or_more : (a b : Bool) → b ≡ true → (a || b) ≡ true
 or_more true b e = refl
 or_more false b e = e
 
--- a number is of a kind, or it is 0 or past 3
-pub kind_number : (n : ℕ) {kind : Kind} → kind_from n ≡ Some kind → number kind ≡ n
-unfolding kind_from number
-kind_number n {kind} e = go (eqb n 1) refl (eqb n 2) refl (eqb n 3) refl e
-  where
-    go : (a : Bool) → eqb n 1 ≡ a → (b : Bool) → eqb n 2 ≡ b → (c : Bool) → eqb n 3 ≡ c → cond a (Some Vertex) (cond b (Some Triangle) (cond c (Some Question) None)) ≡ Some kind → number kind ≡ n
-    go true p b q c r e = let k : kind ≡ Vertex = cc in rw k (sym (eqb-true n 1 p))
-    go false p true q c r e = let k : kind ≡ Triangle = cc in rw k (sym (eqb-true n 2 q))
-    go false p false q true r e = let k : kind ≡ Question = cc in rw k (sym (eqb-true n 3 r))
-    go false p false q false r e = absurd (let z : ◌≡◌ {A = ℕ} 0 1 = cc in omega arith)
-
-pub kind_none : (n : ℕ) → kind_from n ≡ None → (eqb n 0 || ltb 3 n) ≡ true
-unfolding kind_from
-kind_none n e = go (dec_lt 3 n)
-  where
-    small : (n : ℕ) → n ≤ 3 → kind_from n ≡ None → eqb n 0 ≡ true
-    small zero h e = refl
-    small (suc zero) h e = absurd (let z : ◌≡◌ {A = ℕ} 0 1 = cc in omega arith)
-    small (suc (suc zero)) h e = absurd (let z : ◌≡◌ {A = ℕ} 0 1 = cc in omega arith)
-    small (suc (suc (suc zero))) h e = absurd (let z : ◌≡◌ {A = ℕ} 0 1 = cc in omega arith)
-    small (suc (suc (suc (suc n)))) h e = absurd (omega arith)
-
-    go : Dec (3 < n) → (eqb n 0 || ltb 3 n) ≡ true
-    go (yes p) = or_more (eqb n 0) (ltb 3 n) (lt-ltb 3 n p)
-    go (no p) = or_some (eqb n 0) (ltb 3 n) (small n (omega arith) e)
-
-either : (a b c : Bool) → (a || b) ≡ true → (a || (b || c)) ≡ true
-either true b c e = refl
-either false true c e = refl
-either false false c e = absurd (let z : ◌≡◌ {A = ℕ} 0 1 = cc in omega arith)
-
-module _ (form : Form) (r : List ℕ) (last : Option Kind) where
+module _ (form : Form) (r : List ℕ) (last : ℕ) where
   -- the tests of a record, one after another
   abbrev part : Bool
   part = ltb (length r) 8
@@ -130,94 +100,131 @@ module _ (form : Form) (r : List ℕ) (last : Option Kind) where
   high = ltb 3 (kind_of r)
 
   abbrev falls : Bool
-  falls = ltb (kind_of r) (number_before last)
+  falls = ltb (kind_of r) last
 
   abbrev filled : Bool
   filled = any (spare_used form r) 8
 
-  none_if_bad : bad_record form r (number_before last) ≡ true → None ≡ sound_kind form r last
+  zero_if_bad : bad_record form r last ≡ true → 0 ≡ sound_kind form r last
   unfolding sound_kind
-  none_if_bad e = rw e
+  zero_if_bad e = rw e
 
-  pub kind_part : length r < 8 → None ≡ sound_kind form r last
+  pub kind_part : length r < 8 → 0 ≡ sound_kind form r last
   unfolding bad_record
-  kind_part h = none_if_bad (or_some part (none || (high || (falls || filled))) (lt-ltb (length r) 8 h))
+  kind_part h = zero_if_bad (or_some part (none || (high || (falls || filled))) (lt-ltb (length r) 8 h))
 
-  bad_kind : (none || (high || (falls || filled))) ≡ true → bad_record form r (number_before last) ≡ true
+  bad_kind : (none || (high || (falls || filled))) ≡ true → bad_record form r last ≡ true
   unfolding bad_record
   bad_kind e = or_more part (none || (high || (falls || filled))) e
 
-  bad_known : (high || (falls || filled)) ≡ true → None ≡ sound_kind form r last
-  bad_known e = none_if_bad (bad_kind (or_more none (high || (falls || filled)) e))
+  bad_known : (high || (falls || filled)) ≡ true → 0 ≡ sound_kind form r last
+  bad_known e = zero_if_bad (bad_kind (or_more none (high || (falls || filled)) e))
 
-  pub kind_unknown : 3 < kind_of r → None ≡ sound_kind form r last
+  pub kind_unknown : 3 < kind_of r → 0 ≡ sound_kind form r last
   kind_unknown h = bad_known (or_some high (falls || filled) (lt-ltb 3 (kind_of r) h))
 
-  pub kind_falls : kind_of r < number_before last → None ≡ sound_kind form r last
-  kind_falls h = bad_known (or_more high (falls || filled) (or_some falls filled (lt-ltb (kind_of r) (number_before last) h)))
+  pub kind_falls : kind_of r < last → 0 ≡ sound_kind form r last
+  kind_falls h = bad_known (or_more high (falls || filled) (or_some falls filled (lt-ltb (kind_of r) last h)))
 
-  pub kind_spare : any (spare_used form r) 8 ≡ true → None ≡ sound_kind form r last
+  pub kind_spare : any (spare_used form r) 8 ≡ true → 0 ≡ sound_kind form r last
   kind_spare e = bad_known (or_more high (falls || filled) (or_more falls filled e))
 
-  pub kind_zero : kind_of r ≡ 0 → None ≡ sound_kind form r last
-  kind_zero e = none_if_bad (bad_kind (or_some none (high || (falls || filled)) (eq-eqb (kind_of r) 0 e)))
-
-  kind_some : 8 ≤ length r → (kind_of r ≡ 0 → ⊥) → kind_of r ≤ 3 → number_before last ≤ kind_of r → any (spare_used form r) 8 ≡ false → kind_from (kind_of r) ≡ sound_kind form r last
+  pub kind_kept : 8 ≤ length r → kind_of r ≤ 3 → last ≤ kind_of r → any (spare_used form r) 8 ≡ false → kind_of r ≡ sound_kind form r last
   unfolding sound_kind bad_record
-  kind_some l z h f e = rw (le-ltb (length r) 8 l, le-ltb 3 (kind_of r) h, le-ltb (kind_of r) (number_before last) f, e, ne_eqb (kind_of r) 0 z)
-
-  pub kind_kept : 8 ≤ length r → kind_of r ≤ 3 → number_before last ≤ kind_of r → any (spare_used form r) 8 ≡ false → kind_from (kind_of r) ≡ sound_kind form r last
-  unfolding kind_from
-  kind_kept l h f e = go (eqb (kind_of r) 0) refl
+  kind_kept l h f e = rw (le-ltb (length r) 8 l, le-ltb 3 (kind_of r) h, le-ltb (kind_of r) last f, e) (go (eqb (kind_of r) 0) (eqb-true (kind_of r) 0))
     where
-      go : (b : Bool) → eqb (kind_of r) 0 ≡ b → kind_from (kind_of r) ≡ sound_kind form r last
-      go true z = let q = eqb-true (kind_of r) 0 z in rw (ap kind_from q) (kind_zero q)
-      go false z = kind_some l (λ q. absurd (let w : ◌≡◌ {A = Bool} true false = sym (eq-eqb (kind_of r) 0 q) ∙ z in cc)) h f e
+      go : (b : Bool) → (b ≡ true → kind_of r ≡ 0) → kind_of r ≡ cond (b || false) 0 (kind_of r)
+      go true z = z refl
+      go false z = refl
 
-  pub kind_bad : sound_kind form r last ≡ None → bad_record form r (number_before last) ≡ true
-  unfolding sound_kind
-  kind_bad e = go (bad_record form r (number_before last)) refl e
+  pub kind_bad : sound_kind form r last ≡ 0 → bad_record form r last ≡ true
+  unfolding sound_kind bad_record
+  kind_bad e = go (bad_record form r last) refl e
     where
-      go : (b : Bool) → bad_record form r (number_before last) ≡ b → cond b None (kind_from (kind_of r)) ≡ None → bad_record form r (number_before last) ≡ true
+      go : (b : Bool) → bad_record form r last ≡ b → cond b 0 (kind_of r) ≡ 0 → bad_record form r last ≡ true
       go true p e = p
-      go false p e = bad_kind (either none high (falls || filled) (kind_none (kind_of r) e))
+      go false p e = bad_kind (or_some none (high || (falls || filled)) (eq-eqb (kind_of r) 0 e))
 
-  pub kind_sound : {kind : Kind} → sound_kind form r last ≡ Some kind → (bad_record form r (number_before last) ≡ false) × (number kind ≡ kind_of r)
+  pub kind_sound : (sound_kind form r last ≡ 0 → ⊥) → (bad_record form r last ≡ false) × (sound_kind form r last ≡ kind_of r)
   unfolding sound_kind
-  kind_sound {kind} e = go (bad_record form r (number_before last)) e
+  kind_sound n = go (bad_record form r last) refl n
     where
-      go : (b : Bool) → cond b None (kind_from (kind_of r)) ≡ Some kind → (b ≡ false) × (number kind ≡ kind_of r)
-      go true e = absurd (let z : ◌≡◌ {A = ℕ} 0 1 = cc in omega arith)
-      go false e = (refl, kind_number (kind_of r) e)
+      go : (b : Bool) → bad_record form r last ≡ b → (cond b 0 (kind_of r) ≡ 0 → ⊥) → (bad_record form r last ≡ false) × (cond (bad_record form r last) 0 (kind_of r) ≡ kind_of r)
+      go true p n = absurd (n refl)
+      go false p n = (p, rw p)
 
 -- ---- one record after another
 
 -- no record before k is bad, and `last` is the kind of the one before
-pub record Passed (form : Form) (at : ℕ → List ℕ) (last : Option Kind) (k : ℕ) : Type 0 where
+pub record Passed (form : Form) (at : ℕ → List ℕ) (last k : ℕ) : Type 0 where
   pub none : any (bad_at form at) k ≡ false
-  pub before : number_before last ≡ kind_before at k
+  pub before : last ≡ kind_before at k
 
 module _ (form : Form) (at : ℕ → List ℕ) where
-  pub passed_none : Passed form at None 0
-  unfolding any kind_before number_before
+  pub passed_none : Passed form at 0 0
+  unfolding any kind_before
   passed_none = record { none = refl; before = refl }
 
-  module _ (last : Option Kind) (k : ℕ) (p : Passed form at last k) where
-    pub passed_next : (kind : Kind) → sound_kind form (at k) last ≡ Some kind → Passed form at (Some kind) (k + 1)
-    unfolding bad_at kind_before number_before
-    passed_next kind e =
-        let s = kind_sound form (at k) last e in
+  module _ (last k kind : ℕ) (p : Passed form at last k) (e : kind ≡ sound_kind form (at k) last) where
+    pub passed_next : (kind ≡ 0 → ⊥) → Passed form at kind (k + 1)
+    unfolding bad_at kind_before
+    passed_next n =
+        let s = kind_sound form (at k) last (λ z. n (e ∙ z)) in
         record {
           none = rw (any_next (bad_at form at) k, p.none, ← p.before) s.0;
-          before = rw add-one s.1;
+          before = rw add-one (e ∙ s.1);
         }
 
-    pub passed_bad : (n : ℕ) → k < n → sound_kind form (at k) last ≡ None → k ≡ least (bad_at form at) n
+    pub passed_bad : (n : ℕ) → k < n → kind ≡ 0 → k ≡ least (bad_at form at) n
     unfolding bad_at
-    passed_bad n h z = least_at (bad_at form at) n k h (λ j l. any_none (bad_at form at) j k l p.none) (rw (← p.before) (kind_bad form (at k) last z))
+    passed_bad n h z = least_found (bad_at form at) n k p.none h (rw (← p.before) (kind_bad form (at k) last (sym e ∙ z)))
 
-  pub passed_all : (last : Option Kind) (n : ℕ) → Passed form at last n → n ≡ least (bad_at form at) n
-  passed_all last n p = least_none (bad_at form at) n (λ j l. any_none (bad_at form at) j n l p.none)
+  pub passed_all : (last n : ℕ) → Passed form at last n → n ≡ least (bad_at form at) n
+  passed_all last n p = least_past (bad_at form at) n p.none
+
+-- ---- the kind as an option, as the code has it
+
+some_kind : (kind : Kind) → number kind ≡ 0 → ⊥
+unfolding number
+some_kind Vertex e = omega arith
+some_kind Triangle e = omega arith
+some_kind Question e = omega arith
+
+pub kind_number : (n : ℕ) {kind : Kind} → kind_from n ≡ Some kind → number kind ≡ n
+unfolding kind_from number
+kind_number n {kind} e = go (eqb n 1) refl (eqb n 2) refl (eqb n 3) refl e
+  where
+    go : (a : Bool) → eqb n 1 ≡ a → (b : Bool) → eqb n 2 ≡ b → (c : Bool) → eqb n 3 ≡ c → cond a (Some Vertex) (cond b (Some Triangle) (cond c (Some Question) None)) ≡ Some kind → number kind ≡ n
+    go true p b q c r e = let k : kind ≡ Vertex = cc in rw k (sym (eqb-true n 1 p))
+    go false p true q c r e = let k : kind ≡ Triangle = cc in rw k (sym (eqb-true n 2 q))
+    go false p false q true r e = let k : kind ≡ Question = cc in rw k (sym (eqb-true n 3 r))
+    go false p false q false r e = absurd (let z : ◌≡◌ {A = ℕ} 0 1 = cc in omega arith)
+
+no_kind : (n : ℕ) → n ≤ 3 → kind_from n ≡ None → n ≡ 0
+unfolding kind_from
+no_kind zero h e = refl
+no_kind (suc zero) h e = absurd (let z : ◌≡◌ {A = ℕ} 0 1 = cc in omega arith)
+no_kind (suc (suc zero)) h e = absurd (let z : ◌≡◌ {A = ℕ} 0 1 = cc in omega arith)
+no_kind (suc (suc (suc zero))) h e = absurd (let z : ◌≡◌ {A = ℕ} 0 1 = cc in omega arith)
+no_kind (suc (suc (suc (suc n)))) h e = absurd (omega arith)
+
+module _ (form : Form) (r : List ℕ) (last : ℕ) where
+  -- a bad record has none, and else it has its own
+  pub kind_none : kind_from (sound_kind form r last) ≡ None → sound_kind form r last ≡ 0
+  unfolding sound_kind
+  kind_none e = elim (dec_lt 3 (kind_of r)) [ yes p ↦ sym (kind_unknown form r last p) | no p ↦ go (bad_record form r last) (omega arith) e ]
+    where
+      go : (b : Bool) → kind_of r ≤ 3 → kind_from (cond b 0 (kind_of r)) ≡ None → cond b 0 (kind_of r) ≡ 0
+      go true h e = refl
+      go false h e = no_kind (kind_of r) h e
+
+module _ (form : Form) (at : ℕ → List ℕ) (last : Option Kind) (k : ℕ) (p : Passed form at (number_before last) k) where
+  pub passed_sound : {kind : Kind} → kind_from (sound_kind form (at k) (number_before last)) ≡ Some kind → Passed form at (number_before (Some kind)) (k + 1)
+  unfolding number_before
+  passed_sound {kind} e = let n = kind_number (sound_kind form (at k) (number_before last)) e in passed_next form at (number_before last) k (number kind) p n (some_kind kind)
+
+  pub passed_unsound : (n : ℕ) → k < n → kind_from (sound_kind form (at k) (number_before last)) ≡ None → k ≡ least (bad_at form at) n
+  passed_unsound n h e = passed_bad form at (number_before last) k (sound_kind form (at k) (number_before last)) p refl n h (kind_none form (at k) (number_before last) e)
 
 -- ---- a record of held words, and of a file
 
@@ -229,20 +236,12 @@ file_length : (bs : List ℕ) (k : ℕ) → length (file_record bs k) ≡ min 32
 unfolding file_record
 file_length bs k = decode_length (take 32 (drop (32 * k) bs)) ∙ ap (λ (n : ℕ). n / 4) (length-take 32 (drop (32 * k) bs) ∙ ap (min 32) (length-drop (32 * k) bs))
 
--- a whole record has eight words, and the record after the whole ones, a part one, has fewer
-pub file_whole_eight : (bs : List ℕ) (k : ℕ) → k < length bs / 32 → length (file_record bs k) ≡ 8
-file_whole_eight bs k h = rw (file_length bs k) (omega arith)
+-- a whole record has eight words, and so has what the codec makes of it
+pub whole_eight : (form : Form) (bs ws : List ℕ) (k : ℕ) {r : List ℕ} → k < whole_in form bs ws → r ≡ record_in form bs ws k → length r ≡ 8
+unfolding whole_in record_in
+whole_eight File bs ws k h e = ap length e ∙ rw (file_length bs k) (omega arith)
+whole_eight Held bs ws k h e = ap length e ∙ rw (held_length ws k) (omega arith)
 
-pub held_whole_eight : (ws : List ℕ) (k : ℕ) → k < length ws / 8 → length (held_record ws k) ≡ 8
-held_whole_eight ws k h = rw (held_length ws k) (omega arith)
-
-pub file_part : (bs : List ℕ) → length (file_record bs (length bs / 32)) < 8
-file_part bs = rw (file_length bs (length bs / 32)) (omega arith)
-
-pub held_part : (ws : List ℕ) → length (held_record ws (length ws / 8)) < 8
-held_part ws = rw (held_length ws (length ws / 8)) (omega arith)
-
--- what the codec makes of a whole record has eight words
 pub held_eight : (bs : List ℕ) (k : ℕ) {r h : List ℕ} → 32 * k + 32 ≤ length bs → r ≡ file_record bs k → h ≡ held_of (kind_of r) r → (h ≡ held_at bs k) × (length h ≡ 8)
 unfolding held_at
 held_eight bs k {r} {h} l e f =
@@ -267,12 +266,42 @@ unfolding least
 least_next f zero e = rw e
 least_next f (suc n) e = ap (λ (k : ℕ). cond (f 0) 0 (suc k)) (least_next (λ k. f (suc k)) n e)
 
--- a record after the whole ones is a part one, and so a bad one: the first bad one of the whole records, or their number, is the first bad one of all
-module _ (form : Form) (at : ℕ → List ℕ) (whole all : ℕ) (part : length (at whole) < 8) (counts : (whole ≤ all) × (all ≤ whole + 1)) where
-  pub first_of_all : (k : ℕ) → k ≡ least (bad_at form at) whole → k ≡ least (bad_at form at) all
+-- the record after the whole ones is a part one, and so a bad one
+part_bad : (form : Form) (bs ws : List ℕ) → length (record_in form bs ws (whole_in form bs ws)) < 8
+unfolding record_in whole_in
+part_bad File bs ws = rw (file_length bs (length bs / 32)) (omega arith)
+part_bad Held bs ws = rw (held_length ws (length ws / 8)) (omega arith)
+
+whole_or_part : (form : Form) (bs ws : List ℕ) → (whole_in form bs ws ≤ count_in form bs ws) × (count_in form bs ws ≤ whole_in form bs ws + 1)
+unfolding whole_in count_in parts
+whole_or_part File bs ws = (omega arith, omega arith)
+whole_or_part Held bs ws = (omega arith, omega arith)
+
+-- so the first bad one of the whole records, or their number, is the first bad one of all
+module _ (form : Form) (bs ws : List ℕ) where
+  abbrev bad : ℕ → Bool
+  bad = bad_at form (record_in form bs ws)
+
+  pub first_of_all : (k : ℕ) → k ≡ least bad (whole_in form bs ws) → k ≡ least bad (count_in form bs ws)
   unfolding bad_at bad_record
   first_of_all k e =
-      elim (dec_lt whole all) [
-        | yes p ↦ (let c : all ≡ suc whole = omega (arith, counts) in rw c (e ∙ least_next (bad_at form at) whole (rw (lt-ltb _ 8 part))))
-        | no p ↦ (let c : all ≡ whole = omega (arith, counts) in rw c e)
+      elim (dec_lt (whole_in form bs ws) (count_in form bs ws)) [
+        | yes p ↦ (let c : count_in form bs ws ≡ suc (whole_in form bs ws) = omega (arith, whole_or_part form bs ws) in rw c (e ∙ least_next bad (whole_in form bs ws) (rw (lt-ltb _ 8 (part_bad form bs ws)))))
+        | no p ↦ (let c : count_in form bs ws ≡ whole_in form bs ws = omega (arith, whole_or_part form bs ws) in rw c e)
       ]
+
+  -- the first bad one as an option: it is one of the whole ones, or that after them
+  module _ (last : Option Kind) (k : ℕ) (p : Passed form (record_in form bs ws) (number_before last) k) where
+    pub first_is : k < whole_in form bs ws → kind_from (sound_kind form (record_in form bs ws k) (number_before last)) ≡ None → Some k ≡ first_of bad (count_in form bs ws)
+    unfolding first_of
+    first_is h z =
+        let e = first_of_all k (passed_unsound form (record_in form bs ws) last k p (whole_in form bs ws) h z) in
+        let l : k < count_in form bs ws = omega (arith, whole_or_part form bs ws) in
+        rw (← e, lt-ltb k (count_in form bs ws) l)
+
+    pub none_is : k ≡ whole_in form bs ws → then_some (ltb k (count_in form bs ws)) k ≡ first_of bad (count_in form bs ws)
+    unfolding first_of
+    none_is e =
+        let q : Passed form (record_in form bs ws) (number_before last) (whole_in form bs ws) = rw e at p in
+        let f = first_of_all (whole_in form bs ws) (passed_all form (record_in form bs ws) (number_before last) (whole_in form bs ws) q) in
+        rw (e, ← f)

@@ -1,5 +1,5 @@
 -- How long a line is, and can be. Assumes nothing.
-use Rattle.std.specs.Prelude.{◌≡◌, refl, Bool, true, false, cond, List, [], ◌∷◌, ◌++◌, ℕ, zero, suc, ◌+◌, ◌*◌, ◌/◌, ◌%◌, ◌^◌, ◌≤◌, ◌<◌, ltb, Float, length, Option, Some, None}
+use Rattle.std.specs.Prelude.{◌≡◌, refl, Bool, true, false, cond, List, [], ◌∷◌, ◌++◌, ℕ, zero, suc, ◌+◌, ◌*◌, ◌/◌, ◌%◌, ◌^◌, ◌≤◌, ◌<◌, max, ltb, Float, length, Option, Some, None}
 use Rattle.std.proofs.Common.{ap, arith, pow-suc, lt-ltb, le-ltb, length-append}
 use Rattle.vector.specs.declared.coords.Vector.{Vector}
 use Rattle.surface.specs.Text.{digit, digits_of, hexadecimal, normal_text, lane_text, found_line, none_line, asked_line, refused_line}
@@ -66,6 +66,22 @@ pub decimal_more : (n : ℕ) → 10 ≤ n → n < 10 ^ 10 → length (digits_of 
 decimal_more n h l =
     let b : n / 10 < 10 ^ 9 = omega arith in
     rw (digits_same 8 (n / 10) b) (last n h)
+
+ten_pos : (d : ℕ) → 0 < 10 ^ d
+ten_pos zero = omega arith
+ten_pos (suc d) = let f : 10 ^ suc d ≡ 10 ^ d * 10 = pow-suc 10 d in omega (arith, ten_pos d)
+
+-- a number from a power of ten up to the next has that many digits
+pub digits_long : (k d n : ℕ) → d ≤ k → 10 ^ d ≤ max n 1 → n < 10 * 10 ^ d → length (digits_of k n) ≡ suc d
+unfolding digits_of
+digits_long zero zero n h l u = refl
+digits_long zero (suc d) n h l u = absurd (omega arith)
+digits_long (suc k) zero n h l u = let e : 10 ^ zero ≡ 1 = refl in rw (lt-ltb n 10 (omega arith))
+digits_long (suc k) (suc d) n h l u =
+    let f : 10 ^ suc d ≡ 10 ^ d * 10 = pow-suc 10 d in
+    let p : 0 < 10 ^ d = ten_pos d in
+    let g : length (digits_of k (n / 10)) ≡ suc d = digits_long k d (n / 10) (omega arith) (omega arith) (omega arith) in
+    rw (le-ltb n 10 (omega arith)) (rw (length-append, g) (omega arith))
 
 pub lane_none_size : length (lane_text None) ≡ 7
 unfolding lane_text

@@ -5,4 +5,4 @@ use Rattle.lookup.proofs.mesh.gather.Given as goal
 
 abbrev pub invariant-loop-k : goal.invariant-loop-k
 invariant-loop-k l =
-    (length l.first ≡ length l.initial.first) × (length l.second ≡ length l.initial.second) × (length l.third ≡ length l.initial.third) × Gathered l.mesh.vertices.now l.mesh.indices.now l.run l.from l.k l.first l.second l.third l.whole
+    (length l.first ≡ length l.initial.first) × (length l.second ≡ length l.initial.second) × (length l.third ≡ length l.initial.third) × Gathered l.mesh.vertices.now l.mesh.indices.now l.part l.k l.first l.second l.third l.whole

@@ -7,8 +7,8 @@ use Rattle.lookup.proofs.Answers.{refuses}
 use Rattle.lookup.proofs.Fronts.{foreign_is}
 use Rattle.lookup.proofs.sampler.top.Goals as goal
 
-pub returns-in_err-h : goal.returns-in_err-h
+pub returns-in_err-index : goal.returns-in_err-index
 unfolding read_sampled found
-returns-in_err-h c =
-    let h : c.from_residual-in_err-h.result ≡ Err c.in_err-h.field-0.0 = search rules in
-    rw h (refuses (lists_of c.args.mesh) _ _ _ (sym c.in_ok-top_fault.ensures) (foreign_is _ _ c.open.ensures c.in_err-h.was _ _))
+returns-in_err-index c =
+    let h : c.from_residual-in_err-index.result ≡ Err c.in_err-index.field-0.0 = search rules in
+    rw h (refuses (lists_of c.args.mesh) _ _ _ (sym c.in_ok-top_fault.ensures) (foreign_is _ _ c.open.ensures c.in_err-index.was _ _))

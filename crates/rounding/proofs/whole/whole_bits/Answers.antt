@@ -5,7 +5,7 @@ use lib.Bits.{bit_and, and_mask}
 use lib.Ieee.{Format, prec, emax, hid}
 use Rattle.rounding.specs.declared.whole.Way.{Way}
 use Rattle.rounding.specs.Steps.{Wholes, limit_of, addend_of}
-use Rattle.rounding.proofs.RootScaled.{Bounds, known, prec_is, emax_is}
+use Rattle.rounding.proofs.RootScaled.{Bounds, sized}
 use Rattle.rounding.proofs.Fields.{lead_is}
 use Rattle.rounding.proofs.Cut.{unchanged, cut, stays, rises, moves_at}
 use Rattle.rounding.proofs.whole.whole_bits.Goals as goal
@@ -37,23 +37,17 @@ masked b s i u e = ap (λ (x : ℕ). b + s - bit_and (b + s) (x - 1)) e ∙ ap (
 
 pub returns-then-field-e : goal.returns-then-field-e
 returns-then-field-e g c = λ s.
-    let o = g.met.T.Binary.laid_out in
-    let u = prec_is o c.DIGITS-p.ensures c.EMAX-e.ensures in
-    let w = emax_is o c.DIGITS-p.ensures c.EMAX-e.ensures in
-    let k = known o c.DIGITS-p.ensures c.EMAX-e.ensures in
-    unchanged g.T.Binary.format s c.args.way c.args.b c.requires (rw (u, w) c.if-field-e.true)
+    let k = sized g.met.T.Binary.laid_out c.DIGITS-p.ensures c.EMAX-e.ensures in
+    unchanged g.T.Binary.format s c.args.way c.args.b c.requires (rw (k.digits, k.largest) c.if-field-e.true)
 
 pub returns-then-b-limit : goal.returns-then-b-limit
 returns-then-b-limit g c = λ s.
     let f = g.T.Binary.format in
     let b = c.args.b in
     let way = c.args.way in
-    let o = g.met.T.Binary.laid_out in
-    let u = prec_is o c.DIGITS-p.ensures c.EMAX-e.ensures in
-    let w = emax_is o c.DIGITS-p.ensures c.EMAX-e.ensures in
-    let k = known o c.DIGITS-p.ensures c.EMAX-e.ensures in
-    let l : b / hid f < emax f = rw (u, w) c.if-field-e-2.true in
-    let e = bound way _ _ f c.limit.result k u w c.limit.ensures in
+    let k = sized g.met.T.Binary.laid_out c.DIGITS-p.ensures c.EMAX-e.ensures in
+    let l : b / hid f < emax f = rw (k.digits, k.largest) c.if-field-e-2.true in
+    let e = bound way _ _ f c.limit.result k.within k.digits k.largest c.limit.ensures in
     stays f s way b l (moves_at f way b l ∙ lt-leb _ b (subst (λ (x : ℕ). b < x) e c.if-b-limit.true))
 
 pub returns-then-field-e-2 : goal.returns-then-field-e-2
@@ -61,23 +55,17 @@ returns-then-field-e-2 g c = λ s.
     let f = g.T.Binary.format in
     let b = c.args.b in
     let way = c.args.way in
-    let o = g.met.T.Binary.laid_out in
-    let u = prec_is o c.DIGITS-p.ensures c.EMAX-e.ensures in
-    let w = emax_is o c.DIGITS-p.ensures c.EMAX-e.ensures in
-    let k = known o c.DIGITS-p.ensures c.EMAX-e.ensures in
-    let l : b / hid f < emax f = rw (u, w) c.if-field-e-2.true in
-    let e = bound way _ _ f c.limit.result k u w c.limit.ensures in
-    let r : c.EMAX-e.result * ((1 * 2 ^ (c.DIGITS-p.result - 1)) % 2 ^ 64) ≡ emax f * hid f = rw (lead _ _ k, u, w) refl in
+    let k = sized g.met.T.Binary.laid_out c.DIGITS-p.ensures c.EMAX-e.ensures in
+    let l : b / hid f < emax f = rw (k.digits, k.largest) c.if-field-e-2.true in
+    let e = bound way _ _ f c.limit.result k.within k.digits k.largest c.limit.ensures in
+    let r : c.EMAX-e.result * ((1 * 2 ^ (c.DIGITS-p.result - 1)) % 2 ^ 64) ≡ emax f * hid f = rw (lead _ _ k.within, k.digits, k.largest) refl in
     subst (λ (x : ℕ). Wholes f s way b x) (sym r)
     (rises f s way b l (moves_at f way b l ∙ le-leb _ b (subst (λ (x : ℕ). x ≤ b) e c.if-b-limit.false)))
 
 pub step-requires : goal.step-requires
 step-requires g c =
-    let o = g.met.T.Binary.laid_out in
-    let u = prec_is o c.DIGITS-p.ensures c.EMAX-e.ensures in
-    let w = emax_is o c.DIGITS-p.ensures c.EMAX-e.ensures in
-    let k = known o c.DIGITS-p.ensures c.EMAX-e.ensures in
-    rw (unit _ _ c.args.b k c.if-field-e-2.false) (unit_ge c.DIGITS-p.result c.EMAX-e.result c.args.b c.if-field-e.false)
+    let k = sized g.met.T.Binary.laid_out c.DIGITS-p.ensures c.EMAX-e.ensures in
+    rw (unit _ _ c.args.b k.within c.if-field-e-2.false) (unit_ge c.DIGITS-p.result c.EMAX-e.result c.args.b c.if-field-e.false)
 
 pub returns : goal.returns
 returns g c = λ s.
@@ -86,17 +74,14 @@ returns g c = λ s.
     let y = c.args.way in
     let p = c.DIGITS-p.result in
     let e = c.EMAX-e.result in
-    let o = g.met.T.Binary.laid_out in
-    let u = prec_is o c.DIGITS-p.ensures c.EMAX-e.ensures in
-    let w = emax_is o c.DIGITS-p.ensures c.EMAX-e.ensures in
-    let k = known o c.DIGITS-p.ensures c.EMAX-e.ensures in
+    let k = sized g.met.T.Binary.laid_out c.DIGITS-p.ensures c.EMAX-e.ensures in
     let i = below p e b in
     let j = emax f + prec f - 1 - b / hid f in
-    let ji : i ≡ j = rw (u, w) refl in
-    let d = unit p e b k c.if-field-e-2.false in
+    let ji : i ≡ j = rw (k.digits, k.largest) refl in
+    let d = unit p e b k.within c.if-field-e-2.false in
     let z = c.step.ensures ∙ ap (λ (x : ℕ). addend_of y x) d in
-    let t : emax f ≤ b / hid f = rw (u, w) c.if-field-e-2.false in
-    let h : b / hid f < emax f + prec f - 1 = rw (u, w) c.if-field-e.false in
+    let t : emax f ≤ b / hid f = rw (k.digits, k.largest) c.if-field-e-2.false in
+    let h : b / hid f < emax f + prec f - 1 = rw (k.digits, k.largest) c.if-field-e.false in
     let r : b + c.step.result - bit_and (b + c.step.result) ((1 * 2 ^ i) % 2 ^ 64 - 1) ≡ b + addend_of y (2 ^ j) - (b + addend_of y (2 ^ j)) % 2 ^ j =
     masked b c.step.result i ((1 * 2 ^ i) % 2 ^ 64) d ∙ ap (λ (x : ℕ). b + x - (b + x) % 2 ^ i) z
     ∙ ap (λ (x : ℕ). b + addend_of y (2 ^ x) - (b + addend_of y (2 ^ x)) % 2 ^ x) ji in

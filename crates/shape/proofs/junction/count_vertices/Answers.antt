@@ -15,8 +15,8 @@ loop-k-preserved c =
     let n = c.ear_at-n.result.n in
     record {
       sum = rw (
-        sum_next (ear_vertices a.step a.ring.now a.ears.now) l.k,
-        ← (vertices_of_ear a.step a.ring.now a.ears.now l.k c.ear_at-n.result c.ear_at-n.ensures.0),
+        sum_next (ear_vertices a.step a.ears.ring.now a.ears.numbers.now) l.k,
+        ← (vertices_of_ear a.step a.ears.ring.now a.ears.numbers.now l.k c.ear_at-n.result c.ear_at-n.ensures.0),
         ← l.invariant.sum,
       );
       few = omega (arith, square_few n c.ear_at-n.ensures.1);
@@ -26,5 +26,5 @@ pub returns : goal.returns
 unfolding vertex_count
 returns c =
     let l = c.loop-k in
-    let e : l.k ≡ length c.args.ears.now / 3 = omega arith in
+    let e : l.k ≡ length c.args.ears.numbers.now / 3 = omega arith in
     (rw e at l.invariant.sum, omega arith)

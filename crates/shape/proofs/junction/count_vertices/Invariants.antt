@@ -4,4 +4,4 @@ use Rattle.shape.specs.JunctionMesh.{sum_of, ear_vertices}
 use Rattle.shape.proofs.junction.count_vertices.Given as goal
 
 abbrev pub invariant-loop-k : goal.invariant-loop-k
-invariant-loop-k l = record { sum : l.total ≡ sum_of (ear_vertices l.step l.ring l.ears) l.k; few : l.total ≤ 12288 * l.k }
+invariant-loop-k l = record { sum : l.total ≡ sum_of (ear_vertices l.step l.ears.ring.now l.ears.numbers.now) l.k; few : l.total ≤ 12288 * l.k }

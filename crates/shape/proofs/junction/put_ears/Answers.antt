@@ -2,7 +2,7 @@
 use Rattle.std.proofs.Common.{◌≡◌, ℕ, ◌*◌, ◌/◌, length, refl, ◌∙◌, zero-add, arith}
 use Rattle.vector.specs.declared.coords.Point.{Point}
 use Rattle.shape.specs.Gather.{gather}
-use Rattle.shape.specs.JunctionMesh.{raise_of, spacing_of, corner_coords, face_normals, ear_cut, ear_mesh, ears_mesh, sum_of, ear_vertices, vertex_count}
+use Rattle.shape.specs.JunctionMesh.{raised_by, spacing_of, corner_coords, face_normals, ear_cut, ear_mesh, ears_mesh, sum_of, ear_vertices, vertex_count}
 use Rattle.shape.proofs.Laws.Memory.{put_none, put_length, put_turn}
 use Rattle.shape.proofs.Laws.JunctionMesh.{corners_nine, ears_length, sum_fits, vertices_of_ear}
 use Rattle.shape.proofs.junction.put_ears.Goals as goal
@@ -15,29 +15,29 @@ pub put_split-at-requires : goal.put_split-at-requires
 unfolding vertex_count
 put_split-at-requires c =
     let a = c.args in
-    let lift : Point → Point = raise_of a.grid a.survey.heights in
-    let step = spacing_of a.grid in
-    let ring = a.ring.now in
-    let ears = a.ears.now in
+    let lift : Point → Point = raised_by a.relief in
+    let step = spacing_of a.relief.grid in
+    let ring = a.ears.ring.now in
+    let ears = a.ears.numbers.now in
     let l = c.loop-k in
-    let e : c.ear_at-e.result ≡ ear_cut step ring ears l.k = rw c.spacing_of-step.ensures at c.ear_at-e.ensures.0 in
+    let e : c.ear_at-e.result ≡ ear_cut step ring ears l.k = rw c.spacing-step.ensures at c.ear_at-e.ensures.0 in
     let h = sum_fits (ear_vertices step ring ears) l.k (length ears / 3) c.loop-k-test.true in
     let v = vertices_of_ear step ring ears l.k c.ear_at-e.result e in
     let t : l.at ≡ 3 * sum_of (ear_vertices step ring ears) l.k =
     l.invariant.vs.ends ∙ zero-add _ ∙ ears_length corner_coords corners_nine lift step ring ears l.k
     in
     let m : vertex_count step ring ears ≡ sum_of (ear_vertices step ring ears) (length ears / 3) = refl in
-    omega (arith, h, v, t, m, put_length l.invariant.vs, put_length l.invariant.ns, c.ear_at-e.ensures.1, c.requires.room)
+    omega (arith, h, v, t, m, put_length l.invariant.vs, put_length l.invariant.ns, c.ear_at-e.ensures.1, c.requires)
 
 pub loop-k-preserved : goal.loop-k-preserved
 loop-k-preserved c =
     let a = c.args in
-    let lift : Point → Point = raise_of a.grid a.survey.heights in
-    let step = spacing_of a.grid in
-    let ring = a.ring.now in
-    let ears = a.ears.now in
+    let lift : Point → Point = raised_by a.relief in
+    let step = spacing_of a.relief.grid in
+    let ring = a.ears.ring.now in
+    let ears = a.ears.numbers.now in
     let l = c.loop-k in
-    let e : c.ear_at-e.result ≡ ear_cut step ring ears l.k = rw c.spacing_of-step.ensures at c.ear_at-e.ensures.0 in
+    let e : c.ear_at-e.result ≡ ear_cut step ring ears l.k = rw c.spacing-step.ensures at c.ear_at-e.ensures.0 in
     let x = c.put_split-at.ensures in
     record {
       vs = put_turn (λ (i : ℕ). ear_mesh corner_coords lift (ear_cut step ring ears i)) l.k l.invariant.vs (rw e at x.vertices_put);
@@ -48,5 +48,5 @@ pub returns : goal.returns
 unfolding ears_mesh
 returns c =
     let l = c.loop-k in
-    let e : l.k ≡ length c.args.ears.now / 3 = omega arith in
+    let e : l.k ≡ length c.args.ears.numbers.now / 3 = omega arith in
     record { vertices_put = rw e at l.invariant.vs; normals_put = rw e at l.invariant.ns }

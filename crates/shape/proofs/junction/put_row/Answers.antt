@@ -2,7 +2,7 @@
 use Rattle.std.proofs.Common.{◌≡◌, ℕ, ◌+◌, ◌-◌, arith}
 use Rattle.vector.specs.declared.coords.Point.{Point}
 use Rattle.shape.specs.Gather.{gather}
-use Rattle.shape.specs.JunctionMesh.{lattice, raise_of, corner_coords, face_normals}
+use Rattle.shape.specs.JunctionMesh.{lattice, raised_by, corner_coords, face_normals}
 use Rattle.shape.proofs.Laws.Memory.{put_none, put_length}
 use Rattle.shape.proofs.Laws.JunctionMesh.{corners_nine, row_turn, row_end}
 use Rattle.shape.proofs.junction.put_row.Goals as goal
@@ -29,7 +29,7 @@ push-at-requires c =
 pub loop-j-preserved : goal.loop-j-preserved
 loop-j-preserved c =
     let a = c.args in
-    let A : ℕ → ℕ → Point = λ x y. raise_of a.grid a.survey.heights (lattice a.e x y) in
+    let A : ℕ → ℕ → Point = λ x y. raised_by a.relief (lattice a.e x y) in
     let l = c.loop-j in
     let v = l.invariant in
     let x = c.push-next.ensures in
@@ -53,7 +53,7 @@ loop-j-preserved c =
 pub returns : goal.returns
 returns c =
     let a = c.args in
-    let A : ℕ → ℕ → Point = λ x y. raise_of a.grid a.survey.heights (lattice a.e x y) in
+    let A : ℕ → ℕ → Point = λ x y. raised_by a.relief (lattice a.e x y) in
     let l = c.loop-j in
     let v = l.invariant in
     let x = c.push.ensures in

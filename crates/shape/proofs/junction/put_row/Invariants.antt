@@ -4,7 +4,7 @@ use Rattle.std.specs.Prelude.{Float}
 use Rattle.vector.specs.declared.coords.Point.{Point}
 use Rattle.shape.specs.Gather.{gather}
 use Rattle.shape.specs.Memory.{Put}
-use Rattle.shape.specs.JunctionMesh.{lattice, raise_of, corner_coords, face_normals, cell_of}
+use Rattle.shape.specs.JunctionMesh.{lattice, raised_by, corner_coords, face_normals, cell_of}
 use Rattle.shape.proofs.junction.put_row.Given as goal
 
 -- j pairs of the row are put, and p and q are the two points that they end in
@@ -17,4 +17,4 @@ pub record Inv (A : ℕ → ℕ → Point) (n i from : ℕ) (v₀ v n₀ m : Lis
 
 abbrev pub invariant-loop-j : goal.invariant-loop-j
 invariant-loop-j l =
-    Inv (λ x y. raise_of l.grid l.survey.heights (lattice l.e x y)) l.e.n l.i l.from l.initial.vertices l.vertices l.initial.normals l.normals l.at l.p l.q (l.j - 1)
+    Inv (λ x y. raised_by l.relief (lattice l.e x y)) l.e.n l.i l.from l.initial.vertices l.vertices l.initial.normals l.normals l.at l.p l.q (l.j - 1)

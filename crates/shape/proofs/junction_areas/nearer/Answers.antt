@@ -5,6 +5,3 @@ use Rattle.shape.proofs.junction_areas.nearer.Goals as goal
 
 pub returns-then-b-a : goal.returns-then-b-a
 returns-then-b-a c = not_nearer _ _ c.requires (subst T (sym c.if-b-a.true) tt)
-
-pub returns : goal.returns
-returns c = rw (c.root-2.ensures, c.root.ensures)

@@ -8,10 +8,6 @@ pub overflow_sub-dropped : goal.overflow_sub-dropped
 overflow_sub-dropped c =
     omega (arith, c.join-j.ensures.0.solids, solid_most c.args.boundary.segments.words.now (length c.args.boundary.segments.words.now / 2))
 
-pub slice_bounds-finish-end-2 : goal.slice_bounds-finish-end-2
-slice_bounds-finish-end-2 c =
-    simp length-take (omega (arith, c.join-j.ensures.1, c.join-j.auto.line, c.requires))
-
 pub finish-requires : goal.finish-requires
 finish-requires c =
     let s = sound_lists _ _ c.args.boundary.sound in

@@ -45,9 +45,9 @@ loop-i-preserved c =
       few = omega (arith, c.count_segment-q.ensures.1);
     }
 
-pub returns : goal.returns
+pub returns-clause-by_index : goal.returns-clause-by_index
 unfolding indices_of
-returns c =
+returns-clause-by_index c =
     let i = c.loop-i.invariant in
     let e : i.k ≡ length c.args.ks.now - 1 = omega (arith, i.most) in
-    record { by_index = λ v. rw (← e) (i.sum v); upper_bound = omega (arith, i.few) }
+    λ v. rw (← e) (i.sum v)

@@ -33,9 +33,6 @@ walk_at-next-requires c =
     let i = c.loop-i.invariant in
     rw i.next (omega (arith, c.requires.room), ap (λ (x : Walk). x.out) i.here ∙ leg_next c.args.lane.points.now c.args.ks.now i.k (omega arith))
 
-pub put_rib-q-requires : goal.put_rib-q-requires
-put_rib-q-requires c = let i = c.loop-i.invariant in omega (arith, c.requires.room, put_length i.vs, put_length i.ns, i.at_q)
-
 pub put_segment-j-requires : goal.put_segment-j-requires
 unfolding indices_of walk_at
 put_segment-j-requires c =
@@ -71,9 +68,6 @@ loop-i-preserved c =
       here = next;
       at_q = omega (arith, did.vertices_put.ends, i.at_q);
     }
-
-pub put_rib-requires : goal.put_rib-requires
-put_rib-requires c = let i = c.loop-i.invariant in omega (arith, c.requires.room, put_length i.vs, put_length i.ns, i.at_q, c.loop-i.auto)
 
 pub returns : goal.returns
 unfolding vertices_of normals_of indices_of walk_at

@@ -1,11 +1,7 @@
 -- `shape::strip::size_strip` meets its contract. Assumes nothing.
-use Rattle.std.proofs.Common.{arith, length-take}
 use Rattle.shape.specs.Strip.{lane_of, kept}
 use Rattle.shape.proofs.Meshing.{grow}
 use Rattle.shape.proofs.strip.size_strip.Goals as goal
-
-pub count_indices-m-requires : goal.count_indices-m-requires
-count_indices-m-requires c = simp length-take (omega (arith, c.weld-n.ensures.upper_bound))
 
 pub returns : goal.returns
 unfolding kept

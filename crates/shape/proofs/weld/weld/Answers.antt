@@ -43,9 +43,9 @@ module _ (ps : List Float) (k₀ k k' : List ℕ) (h : Welding) (i : ℕ) (hold 
         ends = rw (zero-add, length-append, ← hold.count) p.ends;
       }
 
-pub returns-then-n-eq0 : goal.returns-then-n-eq0
+pub returns-then-n-eq0-clause-put : goal.returns-then-n-eq0-clause-put
 unfolding kept_of
-returns-then-n-eq0 c = rw c.if-n-eq0.true (record { put = record { memory = refl; ends = refl }; upper_bound = omega arith })
+returns-then-n-eq0-clause-put c = rw c.if-n-eq0.true (record { memory = refl; ends = refl })
 
 pub loop-i-init : goal.loop-i-init
 unfolding welded sqrt_of Ieee.of_bits

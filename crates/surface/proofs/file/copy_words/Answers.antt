@@ -1,31 +1,30 @@
 -- `surface::file::copy_words` meets its contract: the first k records are put. Assumes nothing.
-use Rattle.std.proofs.Common.{◌≡◌, ◌+◌, ◌/◌, length, refl, arith}
-use Rattle.shape.specs.Gather.{gather}
-use Rattle.shape.proofs.Laws.Memory.{put_none, put_turn, put_length}
-use Rattle.surface.specs.File.{held_at, words_of, parts}
+use Rattle.std.proofs.Common.{◌≡◌, ◌+◌, ◌/◌, length, sym, arith, rules}
+use Rattle.surface.specs.File.{words_of, parts}
+use Rattle.surface.specs.FileSteps.{whole_in, record_in}
+use Rattle.surface.proofs.Copies.{filled_none, filled_fits, filled_next, filled_all}
+use Rattle.surface.proofs.Laws.File.{held_same}
 use Rattle.surface.proofs.Laws.Records.{held_eight}
 use Rattle.surface.proofs.file.copy_words.Goals as goal
 
 pub loop-k-init : goal.loop-k-init
-unfolding gather
-loop-k-init c = (put_none _ 0, refl)
+loop-k-init c = filled_none _ _ _ _
 
 pub put-at-requires : goal.put-at-requires
-put-at-requires c = omega (arith, put_length c.loop-k.invariant.0)
+unfolding whole_in
+put-at-requires c =
+    let n : length c.«record».result.words ≡ 8 = search rules in
+    rw n (filled_fits _ _ c.loop-k.invariant (length c.args.bytes.now / 32) (omega arith) (omega arith))
 
 pub loop-k-preserved : goal.loop-k-preserved
+unfolding record_in whole_in
 loop-k-preserved c =
     let l = c.loop-k in
-    let xs = c.args.bytes.now in
-    let z = held_eight xs l.k (omega arith) c.«record».ensures c.held_of.ensures in
-    let p = c.put-at.ensures in
-    (put_turn (held_at xs) l.k l.invariant.0 (rw z.0 at p), omega (arith, p.ends, z.1))
+    let z = held_eight c.args.bytes.now l.k (omega arith) c.«record».ensures (sym (held_same _ c.«record».result.words)) in
+    filled_next _ _ l.invariant (rw (← z.0) z.1) (rw z.0 at c.put-at.ensures)
 
 pub returns : goal.returns
-unfolding words_of parts
+unfolding words_of parts whole_in
 returns c =
-    let l = c.loop-k in
-    let xs = c.args.bytes.now in
-    let e : l.k ≡ (length xs + 31) / 32 = omega arith in
-    let f : l.at ≡ length xs / 4 = omega arith in
-    rw (e, f) at l.invariant.0
+    let n = (length c.args.bytes.now + 31) / 32 in
+    filled_all _ _ c.loop-k.invariant n (length c.args.bytes.now / 4) (omega arith) (omega arith)

@@ -7,6 +7,6 @@ use Rattle.surface.proofs.text.put_float.Goals as goal
 
 pub returns : goal.returns
 returns c =
-    let p = c.put_bytes-next.ensures in
+    let p = c.put-next.ensures in
     let q = rw c.stored_word.ensures at c.put_hexadecimal.ensures in
     record { put = put_then p q; value = omega (arith, p.ends, q.ends, hex_eight (stored_of c.args.x)) }

@@ -11,5 +11,5 @@ returns c =
     let d = c.put_normal-at.ensures in
     let e = c.put_number-at-2.ensures in
     let f = c.put_lane-at.ensures in
-    let g = c.put_bytes.ensures in
+    let g = c.put.ensures in
     put_then (put_then (put_then (put_then (put_then a.put b.put) d.put) e.put) f) g

@@ -1,7 +1,0 @@
--- `lookup::build_fast::keep_any` meets its contract: one block more is kept in each turn. Assumes nothing.
-use Rattle.lookup.specs.Index.{blocks_of}
-use Rattle.lookup.specs.Steps.{Kept, from}
-use Rattle.lookup.proofs.build_fast.keep_any.Given as goal
-
-abbrev pub invariant-loop-k : goal.invariant-loop-k
-invariant-loop-k l = Kept (from l.t (blocks_of l.mesh.vertices.now l.mesh.indices.now l.f)) l.k l.blocks

@@ -1,7 +1,0 @@
--- `lookup::build_fast::tally_on` meets its contract: one triangle more is tallied and measured in each turn, or passed over. Assumes nothing.
-use Rattle.lookup.proofs.Tallies.{Measured}
-use Rattle.lookup.proofs.build_fast.tally_on.Given as goal
-
-abbrev pub invariant-loop-t : goal.invariant-loop-t
-invariant-loop-t l =
-    Measured l.mesh.vertices.now l.mesh.indices.now l.first l.t l.count l.extent l.narrow l.width l.height

@@ -1,7 +1,0 @@
--- `lookup::consult::entry_fault` meets its contract: no entry before i is at fault. Assumes nothing.
-use Rattle.std.proofs.Common.{◌≡◌, ◌-◌, arith}
-use Rattle.lookup.proofs.Laws.Heads.{entry_none}
-use Rattle.lookup.proofs.consult.entry_fault.Goals as goal
-
-pub loop-i-init : goal.loop-i-init
-loop-i-init c = let z : c.args.from - c.args.from ≡ 0 = omega arith in rw z (entry_none _ _ _)

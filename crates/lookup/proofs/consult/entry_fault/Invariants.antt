@@ -1,8 +1,0 @@
--- `lookup::consult::entry_fault` meets its contract: no entry before i is at fault. Assumes nothing.
-use Rattle.std.proofs.Common.{◌≡◌, ◌-◌}
-use Rattle.shape.specs.Refusal.{fine}
-use Rattle.lookup.specs.Consult.{entry_fault}
-use Rattle.lookup.proofs.consult.entry_fault.Given as goal
-
-abbrev pub invariant-loop-i : goal.invariant-loop-i
-invariant-loop-i l = entry_fault l.index l.count l.from (l.i - l.from) ≡ fine

@@ -1,5 +1,0 @@
--- `lookup::sampler::answer_of` meets its contract: the peak's weights are those of its triangle. Assumes nothing.
-use Rattle.lookup.proofs.sampler.answer_of.Goals as goal
-
-pub normal_by-requires : goal.normal_by-requires
-normal_by-requires c = c.requires.peak_weighed _ _ c.in_ok-height.was

@@ -1,8 +1,0 @@
--- `shape::ears::first_ear`: no position before k has an ear. Assumes nothing.
-use Rattle.std.proofs.Common.{◌≡◌, false}
-use Rattle.shape.specs.Gather.{any}
-use Rattle.shape.specs.Ears.{is_ear}
-use Rattle.shape.proofs.ears.first_ear.Given as goal
-
-abbrev pub invariant-loop-k : goal.invariant-loop-k
-invariant-loop-k l = any (is_ear l.ring l.left) l.k ≡ false
