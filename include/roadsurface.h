@@ -47,10 +47,10 @@
  * subnormals kept; no exception trapped. A program linked with -ffast-math may flush subnormals for the whole
  * process: a vertex of height z = 1e-39 then gives 0. The calls take no memory but the caller's stack, about:
  *   rs_report         231 KB
- *   rs_ring            50 KB
- *   rs_surface_mesh    34 KB
- *   rs_junction_mesh   17 KB
- *   rs_ear_clip        16 KB
+ *   rs_ring            53 KB
+ *   rs_ear_clip        20 KB
+ *   rs_surface_mesh    18 KB
+ *   rs_junction_mesh   18 KB
  *   rs_build_index      9 KB
  *   every other       under 2 KB
  */

@@ -1,5 +1,5 @@
 -- The records of many points, written one after another, and what the calls come to. Assumes nothing.
-use Rattle.std.proofs.Common.{◌≡◌, ℕ, zero, suc, ◌+◌, ◌-◌, ◌*◌, ◌/◌, ◌%◌, ◌≤◌, List, ◌++◌, length, get_or, take, drop, replicate, length-take-le, refl, sym, ap, ◌∙◌, arith, le-ltb, nat_lt, eq-eqb}
+use Rattle.std.proofs.Common.{◌≡◌, ℕ, zero, suc, ◌+◌, ◌*◌, ◌%◌, ◌≤◌, List, ◌++◌, length, get_or, take, drop, replicate, length-take-le, refl, sym, ap, ◌∙◌, arith, le-ltb, nat_lt, eq-eqb, drop_at, length-append}
 use Rattle.std.proofs.Math.Nat.{mul-suc}
 use Rattle.std.proofs.lemmas.List.{replicate-append-replicate}
 use lib.Ieee.{Float, nan}
@@ -8,8 +8,9 @@ use Rattle.shape.specs.Memory.{Put}
 use Rattle.shape.specs.Refusal.{fine, fault, refuse, Answer, taken, refused, judge, leaves}
 use Rattle.shape.specs.Gather.{gather}
 use Rattle.shape.proofs.Laws.Gather.{gather_even}
-use Rattle.shape.proofs.Laws.Memory.{sets_front, put_turn}
-use Rattle.lookup.proofs.Cuts.{cut_next, cut_get}
+use Rattle.shape.proofs.Laws.Memory.{put_turn}
+use lib.Seq.{drop-drop}
+use Rattle.lookup.proofs.Cuts.{cut_get}
 use Rattle.lookup.specs.Mesh.{triangles}
 use Rattle.lookup.specs.Consult.{head_fault}
 use Rattle.lookup.specs.Sampler.{Sample, miss, top_fault, top_of}
@@ -20,13 +21,9 @@ use Rattle.lookup.proofs.Laws.Batch.{record_width}
 -- ---- one point
 
 module _ (n : ℕ) (old : List ℕ) where
-  pub front_put : (a : Answer Sample) {now : List ℕ} {next : ℕ} → record_words ≤ length old → Put old now 0 (record_of a) next
-      → (taken n ≡ room_for n (length old)) × (now ≡ leaves (room_for n (length old)) (record_of a) old)
+  pub front_put : (a : Answer Sample) {now : List ℕ} → record_words ≤ length old → now ≡ record_of a → now ++ drop record_words old ≡ leaves (room_for n (length old)) (record_of a) old
   unfolding room_for judge leaves refuse
-  front_put a h p = (
-    rw (le-ltb (length old) record_words h),
-    rw (le-ltb (length old) record_words h) (p.memory ∙ sets_front (record_of a) old (omega (arith, record_width a))),
-  )
+  front_put a h e = rw (le-ltb (length old) record_words h, e, record_width a) refl
 
 -- ---- many points
 
@@ -72,23 +69,24 @@ module _ (m : Mesh) (ws : List ℕ) (ps : List Float) where
   unfolding record_at
   at_width k = record_width (top_of m ws (get_or ps (2 * k) nan) (get_or ps (2 * k + 1) nan))
 
-  -- one point more: what stands after the answers to the points before it, and how far the points and the answers go
-  pub point_turn : {old now new : List ℕ} {at next : ℕ} {rest left : List Float} (part : List Float) (s : Answer Sample)
-      → let i = length ps - length rest in (length rest ≤ length ps) → rest ≡ drop i ps → i ≡ 2 * (at / 8) → at ≡ 8 * (at / 8)
-      → Put old now 0 (gather (record_at m ws ps) (at / 8)) at
+  -- one point more: what is left of the points, and the records of those before
+  pub point_turn : {old now new : List ℕ} {rest left : List Float} (k : ℕ) {j : ℕ} (part : List Float) (s : Answer Sample) → 2 * k + length rest ≡ length ps → rest ≡ drop (2 * k) ps
+      → Put old now 0 (gather (record_at m ws ps) k) (record_words * k)
       → rest ≡ part ++ left → length part ≡ 2 → s ≡ top_of m ws (get_or part 0 nan) (get_or part 1 nan)
-      → Put now new at (record_of s) next
-      → let j = length ps - length left in
-      (length left ≤ length ps) × (left ≡ drop j ps) × (j ≡ 2 * (next / 8)) × (next ≡ 8 * (next / 8)) × Put old new 0 (gather (record_at m ws ps) (next / 8)) next
+      → j ≡ k → Put now new (record_words * j) (record_of s) (record_words * j + record_words)
+      → (2 * (k + 1) + length left ≡ length ps) × (left ≡ drop (2 * (k + 1)) ps) × Put old new 0 (gather (record_at m ws ps) (k + 1)) (record_words * (k + 1))
   unfolding record_at
-  point_turn {at = at} {next} {rest} {left} part s l e i8 a8 done c two same p =
-      let f = cut_next ps rest part left l e c in
-      let n : next ≡ at + 8 = p.ends ∙ ap (◌+◌ at) (record_width s) in
-      let k : next / 8 ≡ at / 8 + 1 = omega (arith, n) in
-      let x : get_or part 0 nan ≡ get_or ps (2 * (at / 8)) nan = cut_get ps part left (length ps - length rest) 0 nan (sym c ∙ e) (omega (arith, two)) ∙ ap (λ (z : ℕ). get_or ps z nan) (omega (arith, i8)) in
-      let y : get_or part 1 nan ≡ get_or ps (2 * (at / 8) + 1) nan = cut_get ps part left (length ps - length rest) 1 nan (sym c ∙ e) (omega (arith, two)) ∙ ap (λ (z : ℕ). get_or ps z nan) (omega (arith, i8)) in
-      let q : s ≡ top_of m ws (get_or ps (2 * (at / 8)) nan) (get_or ps (2 * (at / 8) + 1) nan) = rw (← x, ← y) same in
-      (f.0, f.1, omega (arith, f.2, two, i8, k), omega (arith, n, a8), rw k (put_turn (record_at m ws ps) (at / 8) done (rw (← q) p)))
+  point_turn {rest = rest} {left} k part s l e done c two same z p =
+      let n : length rest ≡ length part + length left = ap length c ∙ length-append part left in
+      let i : 2 * k + length part ≡ 2 * (k + 1) = omega (arith, two) in
+      let w : record_words * k + record_words ≡ record_words * (k + 1) = omega arith in
+      let x : get_or part 0 nan ≡ get_or ps (2 * k) nan = cut_get ps part left (2 * k) 0 nan (sym c ∙ e) (omega (arith, two)) ∙ ap (λ (z : ℕ). get_or ps z nan) (omega arith) in
+      let y : get_or part 1 nan ≡ get_or ps (2 * k + 1) nan = cut_get ps part left (2 * k) 1 nan (sym c ∙ e) (omega (arith, two)) in
+      let q : s ≡ top_of m ws (get_or ps (2 * k) nan) (get_or ps (2 * k + 1) nan) = rw (← x, ← y) same in (
+        omega (arith, l, n, two),
+        rw (← i) (sym (drop_at part left (length part) refl) ∙ ap (drop (length part)) (sym c ∙ e) ∙ drop-drop (length part) (2 * k) ps),
+        rw (← w) (put_turn (record_at m ws ps) k done (rw (← q, ← z) p)),
+      )
 
   pub all_width : length (records_of m ws ps) ≡ record_words * points_in ps
   unfolding records_of
@@ -107,3 +105,8 @@ module _ (m : Mesh) (ws : List ℕ) (ps : List Float) where
         → (a ≡ tops_of m ws ps (length old)) × (now ≡ leaves (tops_of m ws ps (length old)) (records_of m ws ps) old)
     unfolding tops_of judge uneven refuse
     said_rest e s p = (rw (f, eq-eqb (length ps % 2) 0 even, e) p.0, rw (f, eq-eqb (length ps % 2) 0 even, e, ← s) p.1)
+
+    -- the records are all written
+    pub said_all : {now rs : List ℕ} → head_fault ws (triangles m.indices) ≡ fine → rs ≡ records_of m ws ps → record_words * points_in ps ≤ length old → now ≡ rs ++ drop (length rs) old
+        → (taken (points_in ps) ≡ tops_of m ws ps (length old)) × (now ≡ leaves (tops_of m ws ps (length old)) (records_of m ws ps) old)
+    said_all {rs = rs} e s h n = said_rest e s (count_all ps old rs h n)

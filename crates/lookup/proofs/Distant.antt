@@ -1,12 +1,12 @@
 -- A point whose weight of corner a is above 2 in size is not inside: the weight itself is below the slack, or what it leaves for c is. Assumes nothing.
-use Rattle.std.proofs.Common.{◌≡◌, ℕ, Bool, true, false, not, ◌&&◌, T, ◌⊎◌, ℤ, refl, subst, inl, inr, ⊎_elim}
+use Rattle.std.proofs.Common.{◌≡◌, ℕ, Bool, true, false, cond, not, ◌&&◌, T, ◌⊎◌, ℤ, refl, subst, inl, inr, ⊎_elim}
 use lib.Dec.{not_T}
 use lib.Ieee.Bits.{is_false}
-use lib.Ieee.{Float, nan, inf, fin, binary32, neg, lt, le, mul, sub, of_bits}
+use lib.Ieee.{Float, is_nan, nan, inf, fin, binary32, neg, lt, le, mul, sub, of_bits}
 use lib.Ieee.Positive.{positive}
 use lib.Ieee.Scale.{finite}
-use Rattle.rounding.specs.Extremes.{abs_of}
-use Rattle.rounding.proofs.Laws.Order.{le_refl, le_trans, le_or_lt, le_of_lt, lt→not_le, lt_nan, le_num_right, le_bottom, le_top, T_of, not-T-of}
+use Rattle.rounding.specs.Extremes.{abs_of, first, min_of}
+use Rattle.rounding.proofs.Laws.Order.{le_refl, le_trans, le_or_lt, le_of_lt, lt→not_le, lt_nan, lt_num_left, le_num_right, le_bottom, le_top, T_of, not-T-of}
 use Rattle.rounding.specs.Numbers.{IsNum}
 use Rattle.rounding.proofs.Laws.Rounding.{neg_anti}
 use Rattle.rounding.proofs.Laws.Products.{mul_mono_right, mul_mono_signed, mul_num_finite}
@@ -14,6 +14,7 @@ use Rattle.rounding.proofs.Laws.Sums.{sub_mono, sub_num_left}
 use Rattle.vector.specs.Single.{◌⊖◌, ◌⊗◌, 1f, single}
 use Rattle.vector.specs.declared.coords.Point.{Point}
 use Rattle.lookup.specs.declared.mesh.Weights.{Weights}
+use Rattle.lookup.specs.Steps.{Picked}
 use Rattle.lookup.specs.Cover.{thinnest, slack, weights_inside, det_of, weights_of, weight_a, weight_b}
 
 -- 2
@@ -138,15 +139,24 @@ one_fails true true true true (inr (inr e)) = e
 low_fails : (x : Float) → lt x slack ≡ true → le slack x ≡ false
 low_fails x h = is_false (le slack x) (not_T (le slack x) (lt→not_le x slack (T_of h)))
 
+-- where the lesser of two is too low, one of them is
+lesser_low : (x y : Float) {r : Float} → Picked min_of x y r → lt r slack ≡ true → (lt x slack ≡ true) ⊎ (lt y slack ≡ true)
+unfolding min_of first
+lesser_low x y {r} p e = go (is_nan x) (is_nan y) (le x y) (p.is (p.back (lt_num_left r slack (T_of e))))
+  where
+    low : {z : Float} → r ≡ z → lt z slack ≡ true
+    low h = subst (λ (z : Float). lt z slack ≡ true) h e
+
+    go : (a b c : Bool) → r ≡ cond a y (cond b x (cond c x y)) → (lt x slack ≡ true) ⊎ (lt y slack ≡ true)
+    go true b c h = inr (low h)
+    go false true c h = inl (low h)
+    go false false true h = inl (low h)
+    go false false false h = inr (low h)
+
 -- the lesser of two weights, and of that and the third
-pub low_outside : (w : Weights) (l m : Float) → (l ≡ w.a) ⊎ (l ≡ w.b) → (m ≡ l) ⊎ (m ≡ w.c) → lt m slack ≡ true → weights_inside w ≡ false
+pub low_outside : (w : Weights) (l m : Float) → Picked min_of w.b w.a l → Picked min_of w.c l m → lt m slack ≡ true → weights_inside w ≡ false
 unfolding weights_inside
-low_outside w l m h (inr k) e =
+low_outside w l m p q e =
     one_fails (not (lt (abs_of w.det) thinnest)) (le slack w.a) (le slack w.b) (le slack w.c)
-    (inr (inr (low_fails w.c (subst (λ (z : Float). lt z slack ≡ true) k e))))
-low_outside w l m (inl h) (inl k) e =
-    one_fails (not (lt (abs_of w.det) thinnest)) (le slack w.a) (le slack w.b) (le slack w.c)
-    (inl (low_fails w.a (subst (λ (z : Float). lt z slack ≡ true) h (subst (λ (z : Float). lt z slack ≡ true) k e))))
-low_outside w l m (inr h) (inl k) e =
-    one_fails (not (lt (abs_of w.det) thinnest)) (le slack w.a) (le slack w.b) (le slack w.c)
-    (inr (inl (low_fails w.b (subst (λ (z : Float). lt z slack ≡ true) h (subst (λ (z : Float). lt z slack ≡ true) k e)))))
+    (⊎_elim (λ (h : lt w.c slack ≡ true). inr (inr (low_fails w.c h))) (λ (h : lt l slack ≡ true). ⊎_elim
+    (λ (g : lt w.b slack ≡ true). inr (inl (low_fails w.b g))) (λ (g : lt w.a slack ≡ true). inl (low_fails w.a g)) (lesser_low w.b w.a p h)) (lesser_low w.c l q e))

@@ -5,7 +5,7 @@ use Rattle.shape.specs.Refusal.{fine, fault, taken, refused, number_of, place_of
 use Rattle.shape.specs.declared.refusal.Refusal.{Refusal}
 use Rattle.lookup.specs.declared.consult.Index.{Index}
 use Rattle.lookup.specs.Consult.{word_at, head_fault, nowhere, consult_of}
-use Rattle.lookup.specs.Steps.{Sided, Ready}
+use Rattle.lookup.specs.Steps.{Framed, Sided, Ready, frame_at}
 use Rattle.lookup.specs.Opened.{Opens}
 use Rattle.lookup.proofs.Laws.Heads.{consult_refused}
 
@@ -16,10 +16,15 @@ few a b h k = mul-le-mul h k
 pub sided_some : (ws : List ℕ) → Sided ws → word_at ws 1 ≡ 0 → ⊥
 sided_some ws s z = omega (arith, z, s.some_cols)
 
+-- words 1 and 2 are the sides of the frame
+pub framed_at : (ws : List ℕ) → Sided ws → Framed (frame_at ws)
+unfolding frame_at
+framed_at ws s = record { some_cols = s.some_cols; few_cols = s.few_cols; some_rows = s.some_rows; few_rows = s.few_rows }
+
 -- ---- what `open` tells
 
 module _ (ws : List ℕ) (count : ℕ) {d : Result (Option Index) Refusal} (s : Opens ws count d) where
-  pub open_is : {i : Index} → d ≡ Ok (Some i) → (i.words.now ≡ ws) × (i.count ≡ count) × Ready ws count i.front
+  pub open_is : {i : Index} → d ≡ Ok (Some i) → (i.words.now ≡ ws) × (i.count ≡ count) × Ready ws count i.grid.frame i.entries
   unfolding Opens
   open_is e = subst (Opens ws count) e s
 

@@ -4,6 +4,7 @@ pub mod Distant
 pub mod Sums
 pub mod Visit
 pub mod Runs
+pub mod Walks
 pub mod Pairs
 pub mod Chain
 pub mod Search

@@ -9,6 +9,7 @@ use Rattle.rounding.proofs.Laws.Order.{T_of, num_of_same, nan_of_differs, lt_num
 use Rattle.rounding.specs.Numbers.{IsNum}
 use Rattle.rounding.proofs.Laws.Sums.{add_num_left, add_num_right, sub_num_left}
 use Rattle.vector.specs.declared.coords.Point.{Point}
+use Rattle.lookup.specs.declared.mesh.Triangle.{Triangle}
 use Rattle.lookup.specs.Mesh.{corners_of}
 use Rattle.lookup.specs.Box.{around_of, slack_of, grown_of, grown_box, box_of, merge_of}
 use Rattle.lookup.specs.Index.{block_of, blocks_of}
@@ -112,17 +113,17 @@ none_no_box b e = absurd (subst IsBox (sym e) tt)
 
 -- ---- the box of a triangle whose corners are there
 
-pub box_quick : (vs : List Float) (is : List ℕ) (t : ℕ) (a b c : Point) (e g : Aabb) → corners_of vs is t ≡ Some (a, b, c) → e ≡ around_of a b c → g ≡ grown_of e → box_of vs is t ≡ Some g
+pub box_quick : (vs : List Float) (is : List ℕ) (t : ℕ) (k : Triangle) (e g : Aabb) → corners_of vs is t ≡ Some k → e ≡ around_of k.a k.b k.c → g ≡ grown_of e → box_of vs is t ≡ Some g
 unfolding box_of grown_box
-box_quick vs is t a b c e g h i j = ap grown_box h ∙ ap (λ (x : Aabb). Some (grown_of x)) (sym i) ∙ ap Some (sym j)
+box_quick vs is t k e g h i j = ap grown_box h ∙ ap (λ (x : Aabb). Some (grown_of x)) (sym i) ∙ ap Some (sym j)
 
 pub block_quick :
-    (vs : List Float) (is : List ℕ) (f : Frame) (t : ℕ) (a b c : Point) (e g : Aabb) (r : Block) → corners_of vs is t ≡ Some (a, b, c) →
-    e ≡ around_of a b c → g ≡ grown_of e → r ≡ block_of f (Some g) → r ≡ blocks_of vs is f t
+    (vs : List Float) (is : List ℕ) (f : Frame) (t : ℕ) (k : Triangle) (e g : Aabb) (r : Block) → Some k ≡ corners_of vs is t →
+    e ≡ around_of k.a k.b k.c → g ≡ grown_of e → r ≡ block_of f (Some g) → r ≡ blocks_of vs is f t
 unfolding blocks_of
-block_quick vs is f t a b c e g r h i j k = k ∙ ap (block_of f) (sym (box_quick vs is t a b c e g h i j))
+block_quick vs is f t k e g r h i j o = o ∙ ap (block_of f) (sym (box_quick vs is t k e g (sym h) i j))
 
 -- and the block of one that is missing
 pub block_missing : (vs : List Float) (is : List ℕ) (f : Frame) (t : ℕ) → None ≡ corners_of vs is t → ◌≡◌ {A = Block} (record { left = 1; right = 0; low = 1; high = 0 }) (blocks_of vs is f t)
 unfolding blocks_of block_of box_of grown_box
-block_missing vs is f t h = ap (λ (x : (Option (Point × Point × Point))). block_of f (grown_box x)) h
+block_missing vs is f t h = ap (λ (x : Option Triangle). block_of f (grown_box x)) h

@@ -1,8 +1,8 @@
 -- How far a box may reach from the column of its lower bound: what the walk over the columns knows, and how many entries there may then be. Assumes nothing.
 use Rattle.std.proofs.Common.{◌≡◌, ℕ, zero, suc, ◌+◌, ◌-◌, ◌*◌, ◌^◌, ◌<◌, ◌≤◌, true, false, T, List, refl, inl, inr, zero-le, mul-le-mul, arith, Option, Some, None}
-use Rattle.vector.specs.declared.coords.Point.{Point}
 use lib.Ieee.{Float, nan, inf, fin, binary32, add, sub, lt, le, fits}
 use lib.Ieee.Fits.{add-fits}
+use Rattle.lookup.specs.declared.mesh.Triangle.{Triangle}
 use Rattle.lookup.specs.Column.{col}
 use Rattle.rounding.proofs.Laws.Order.{le_bottom, le_or_lt, le_of_lt, le_num_left, le_num_right, lt_num_left, lt_of_le_of_lt}
 use Rattle.rounding.specs.Numbers.{IsNum}
@@ -129,9 +129,9 @@ abbrev HeldBox : (Option Aabb) → Type 0
 HeldBox (Some e) = T (fits binary32 e.max_x) × T (fits binary32 e.max_y)
 HeldBox None = Unit {0}
 
-held_grown : (g : (Option (Point × Point × Point))) → HeldBox (grown_box g)
+held_grown : (g : Option Triangle) → HeldBox (grown_box g)
 unfolding grown_box
-held_grown (Some (a, b, c)) = (add-fits binary32 _ _, add-fits binary32 _ _)
+held_grown (Some k) = (add-fits binary32 _ _, add-fits binary32 _ _)
 held_grown None = tt
 
 held_box : (vs : List Float) (is : List ℕ) (t : ℕ) → HeldBox (box_of vs is t)

@@ -1,5 +1,5 @@
 -- The first span that ends past an index, by halving: what is known between two bounds, and that it ends with the span. Assumes nothing.
-use Rattle.std.proofs.Common.{◌≡◌, ℕ, ◌+◌, ◌-◌, ◌*◌, ◌/◌, ◌<◌, ◌≤◌, List, get_or, sym, ap, ◌∙◌, zero-le, le_refl, arith, ltb, lt-ltb, le-ltb, Option}
+use Rattle.std.proofs.Common.{◌≡◌, ℕ, ◌+◌, ◌-◌, ◌*◌, ◌/◌, ◌<◌, ◌≤◌, List, get_or, sym, ap, ◌∙◌, le_refl, arith, ltb, lt-ltb, le-ltb, Option}
 use Rattle.std.specs.Bool.{then_some}
 use Rattle.std.specs.Option.{MatchOption}
 use native.Mathlib.Decide.{dec_lt}
@@ -9,9 +9,6 @@ use Rattle.lookup.specs.Steps.{Halved}
 use Rattle.lookup.proofs.Laws.Spans.{past_is}
 
 module _ (ss : List ℕ) (i n : ℕ) where
-  pub whole : Halved ss i n 0 (0 + n)
-  whole = record { order = zero-le; within = omega arith; before = λ j h. absurd (omega arith); past = λ h. absurd (omega arith) }
-
   upper : (low high middle : ℕ) → EndsRise ss n → Halved ss i n low high → middle < high → end_of 5 3 ss middle ≤ i → Halved ss i n (middle + 1) high
   upper low high middle rise p l e =
       record {

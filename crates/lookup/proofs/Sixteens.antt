@@ -1,5 +1,5 @@
 -- The steps by which `highest` goes through a run, sixteen triangles at a time, and what `locate` says of it. Assumes nothing.
-use Rattle.std.proofs.Common.{◌≡◌, ℕ, suc, ◌+◌, ◌-◌, ◌*◌, ◌<◌, ◌≤◌, Bool, true, false, ◌&&◌, List, length, get_or, take, drop, set, sym, refl, ap, ◌∙◌, subst, add-one, arith, length-drop, length-set, length-take-le, get_or-drop, get_or-set_other, get_or-take, get_or-set_same, Option, Some, None, Result, Ok, Err, zero, cond, ◌++◌}
+use Rattle.std.proofs.Common.{◌≡◌, ℕ, suc, ◌+◌, ◌-◌, ◌*◌, ◌<◌, ◌≤◌, Bool, true, false, ◌&&◌, List, length, get_or, take, drop, set, sym, refl, ap, ◌∙◌, subst, add-one, arith, length-drop, length-set, length-take-le, get_or-drop, get_or-set_other, get_or-take, get_or-set_same, Option, Some, None, Result, Ok, Err, cond, ◌++◌}
 use native.Mathlib.Decide.{dec_lt}
 use lib.Ieee.{Float, nan, lt, le}
 use Rattle.rounding.proofs.Laws.Order.{T_of}
@@ -7,12 +7,14 @@ use Rattle.vector.specs.Single.{0f}
 use Rattle.vector.specs.declared.coords.Point.{Point}
 use Rattle.shape.specs.Refusal.{fine, Answer, refused, number_of, place_of}
 use Rattle.shape.specs.declared.refusal.Refusal.{Refusal}
+use Rattle.lookup.specs.declared.mesh.Triangle.{Triangle}
 use Rattle.lookup.specs.declared.mesh.Weights.{Weights}
 use Rattle.lookup.specs.declared.mesh.WeighedTriangle.{WeighedTriangle}
 use Rattle.lookup.specs.Mesh.{present, corners_of, triangles}
 use Rattle.lookup.specs.Cover.{slack, covers, height_of, weights_of, weights_at, det_of, over_a, weight_a, weight_b, weights_inside}
 use Rattle.lookup.specs.Plain.{higher_of, scan_of, entry_of}
 use Rattle.lookup.specs.Consult.{entry_fault, word_at, Candidates}
+use Rattle.std.specs.declared.ops.Range.{Range}
 use Rattle.lookup.specs.Steps.{Runs, Started}
 use Rattle.lookup.specs.Sixteen.{ground_at, Over, Grounded, CornersUnder, There, AllUnder, Exactly, Gathered, Low, AllLow, Weighed, Weighs, PeakWeighed, HitOf, best_of, scan_on}
 use Rattle.lookup.proofs.Laws.Index.{entries_fine}
@@ -20,6 +22,7 @@ use Rattle.lookup.proofs.Laws.Fold.{fold_on, fold_same}
 use Rattle.lookup.proofs.Laws.Plain.{present_below}
 use Rattle.lookup.proofs.Laws.Scan.{upto}
 use Rattle.lookup.proofs.Laws.Parts.{both}
+use Rattle.std.proofs.Math.ListN.{get_or-append}
 use Rattle.lookup.proofs.Cuts.{cut_get}
 use Rattle.lookup.proofs.Turns.{there, missing, weights_are}
 
@@ -80,18 +83,18 @@ module _ (vs : List Float) (is : List ℕ) where
   unfolding covers weights_at
   held_out x y h o = rw (h.there, ← ground_weights x y h.first h.second h.third, o)
 
-  fetched : (t : ℕ) {a b c p q r : Point} → corners_of vs is t ≡ Some (a, b, c) → Over p a → Over q b → Over r c → CornersUnder vs is t p q r
+  fetched : (t : ℕ) {k : Triangle} {p q r : Point} → corners_of vs is t ≡ Some k → Over p k.a → Over q k.b → Over r k.c → CornersUnder vs is t p q r
   fetched t e f g h =
       let w = there vs is t e in
       record { there = w.0; first = subst (Over _) w.1 f; second = subst (Over _) w.2 g; third = subst (Over _) w.3 h }
 
   -- a place more is filled, or passed over as its triangle is missing
-  pub gather_step : (run : List ℕ) (k : ℕ) {a b c a' b' c' : List Float} {p q r : Point} {whole : Bool}
+  pub gather_step : (run : List ℕ) (k : ℕ) {a b c a' b' c' : List Float} {t : Triangle} {whole : Bool}
       → Gathered vs is run k a b c whole
-      → corners_of vs is (entry_of run k) ≡ Some (p, q, r)
-      → Grounded a a' k p
-      → Grounded b b' k q
-      → Grounded c c' k r
+      → corners_of vs is (entry_of run k) ≡ Some t
+      → Grounded a a' k t.a
+      → Grounded b b' k t.b
+      → Grounded c c' k t.c
       → Gathered vs is run (k + 1) a' b' c' whole
   gather_step run k {a} {b} {c} {a'} {b'} {c'} old e f g h =
       record {
@@ -130,11 +133,14 @@ missing_out : (vs : List Float) (is : List ℕ) (t : ℕ) (x y : Float) → pres
 unfolding covers
 missing_out vs is t x y e = rw e
 
-pub weighed : (vs : List Float) (is : List ℕ) (x y : Float) (run : List ℕ) (n m : ℕ) (a b c low : List Float) (whole : Bool)
-    → n ≤ m → Gathered vs is run n a b c whole → AllLow a b c x y low m → Weighed vs is x y run n low whole
-weighed vs is x y run n m a b c low whole le g lows =
-    record { passing = λ k l w. go k l (present vs is (entry_of run k)) refl (lows k (omega arith) w); flag = g.flag }
+pub weighed : (vs : List Float) (is : List ℕ) (x y : Float) (run : List ℕ) (n : ℕ) (a b c low rest : List Float) (whole : Bool)
+    → n ≤ length low → Gathered vs is run n a b c whole → AllLow a b c x y low (length low) → Weighed vs is x y run n (low ++ rest) whole
+weighed vs is x y run n a b c low rest whole le g lows =
+    record { passing = λ k l w. go k l (present vs is (entry_of run k)) refl (lows k (omega arith) (front k (omega arith) w)); flag = g.flag }
   where
+    front : (k : ℕ) → k < length low → Low (low ++ rest) k → Low low k
+    front k l = subst (λ (z : Float). lt z slack ≡ true) (get_or-append low rest nan k l)
+
     go : (k : ℕ) → k < n → (p : Bool) → present vs is (entry_of run k) ≡ p → weights_inside (weights_of (ground_at a k) (ground_at b k) (ground_at c k) x y) ≡ false
         → covers vs is (entry_of run k) x y ≡ false
     go k l true e o = held_out vs is x y (g.held k l e) o
@@ -168,7 +174,7 @@ module _ (vs : List Float) (is : List ℕ) (x y : Float) where
       go true = old
       go false = λ g v e. subst (λ (v : WeighedTriangle). Weighs vs is x y v.triangle v.weights) (at_same e) new
 
-  pub weighs : {t : ℕ} {a b c : Point} {w : Weights} → corners_of vs is t ≡ Some (a, b, c) → w ≡ weights_of a b c x y → Weighs vs is x y t w
+  pub weighs : {t : ℕ} {k : Triangle} {w : Weights} → corners_of vs is t ≡ Some k → w ≡ weights_of k.a k.b k.c x y → Weighs vs is x y t w
   weighs {t} f e = record { there = (there vs is t f).0; same = e ∙ weights_are vs is t x y f }
 
 pub pass_next : (vs : List Float) (is : List ℕ) (x y : Float) (start best : Option (Float × ℕ)) (run : List ℕ) (i : ℕ)
@@ -215,11 +221,11 @@ run_sound vs is ws a e run same room all =
 
 -- ---- what is located
 
-module _ (ws : List ℕ) (count : ℕ) {answer : Answer Candidates} {d : Result (Option (ℕ × ℕ)) Refusal} (s : Started ws count answer d) where
+module _ (ws : List ℕ) (count : ℕ) {answer : Answer Candidates} {d : Result (Option (Range ℕ)) Refusal} (s : Started ws count answer d) where
   pub refused_is : {r : Refusal} → d ≡ Err r → refused (number_of r) (place_of r) ≡ answer
   unfolding Started
   refused_is e = subst (Started ws count answer) e s
 
-  pub run_is : {a e : ℕ} → d ≡ Ok (Some (a, e)) → Runs ws count answer a e
+  pub run_is : {r : Range ℕ} → d ≡ Ok (Some r) → Runs ws count answer r.start r.end
   unfolding Started
   run_is e = subst (Started ws count answer) e s

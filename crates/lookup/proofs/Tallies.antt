@@ -3,12 +3,12 @@ use Rattle.std.proofs.Common.{◌≡◌, ℕ, zero, suc, ◌+◌, ◌<◌, ◌�
 use Rattle.std.specs.Bool.{then_some}
 use lib.Ieee.{Float, of_bits, ne, le, is_nan}
 use Rattle.rounding.specs.Extremes.{first, ge, min_of, max_of}
-use Rattle.rounding.proofs.Laws.Order.{le_trans, num_of_same}
+use Rattle.rounding.proofs.Laws.Order.{le_trans}
 use Rattle.rounding.specs.Numbers.{IsNum}
 use Rattle.rounding.proofs.Laws.Extremes.{max_picks}
-use Rattle.rounding.proofs.Laws.Sums.{add_num_left, add_num_right, sub_num_right}
+use Rattle.rounding.proofs.Laws.Sums.{sub_num_right}
 use Rattle.vector.specs.Single.{◌⊕◌, ◌⊖◌, 0f}
-use Rattle.vector.specs.declared.coords.Point.{Point}
+use Rattle.lookup.specs.declared.mesh.Triangle.{Triangle}
 use Rattle.lookup.specs.Mesh.{triangles, corners_of}
 use Rattle.lookup.specs.Box.{around_of, grown_of, grown_box, box_of, merge_of}
 use Rattle.lookup.specs.Frame.{join_of, one_of, boxes_of, extent_of}
@@ -16,7 +16,7 @@ use Rattle.lookup.specs.Steps.{Picked, Sound, Tallied, Fits, Narrow, Tells}
 use Rattle.lookup.specs.declared.boxes.Aabb.{Aabb}
 use Rattle.lookup.specs.declared.build_fast.Sides.{Sides}
 use Rattle.lookup.specs.declared.build_fast.Tally.{Tally}
-use Rattle.lookup.proofs.Picking.{box_inj, none_no_box, box_quick, grown_back}
+use Rattle.lookup.proofs.Picking.{box_inj, none_no_box, box_quick, grown_back, summed}
 
 pub one_le : (b : (Option Aabb)) → one_of b ≤ 1
 unfolding one_of
@@ -29,8 +29,8 @@ boxes_le vs is zero = omega arith
 boxes_le vs is (suc t) = omega (arith, boxes_le vs is t, one_le (box_of vs is t))
 
 -- the box of a triangle whose corners are there, and of one that is missing
-pub box_there : (vs : List Float) (is : List ℕ) (t : ℕ) (a b c : Point) (e g : Aabb) → Some (a, b, c) ≡ corners_of vs is t → e ≡ around_of a b c → g ≡ grown_of e → box_of vs is t ≡ Some g
-box_there vs is t a b c e g f i j = box_quick vs is t a b c e g (sym f) i j
+pub box_there : (vs : List Float) (is : List ℕ) (t : ℕ) (k : Triangle) (e g : Aabb) → Some k ≡ corners_of vs is t → e ≡ around_of k.a k.b k.c → g ≡ grown_of e → box_of vs is t ≡ Some g
+box_there vs is t k e g f i j = box_quick vs is t k e g (sym f) i j
 
 box_missing : (vs : List Float) (is : List ℕ) (t : ℕ) → None ≡ corners_of vs is t → box_of vs is t ≡ None
 unfolding box_of grown_box
@@ -92,11 +92,9 @@ module _ (vs : List Float) (is : List ℕ) (t : ℕ) (narrow : Bool) (width heig
       → (let both = (g.max_x ⊖ g.min_x) ⊕ (g.max_y ⊖ g.min_y) in ne both both ≡ false)
       → Picked max_of width (g.max_x ⊖ g.min_x) r → Picked max_of height (g.max_y ⊖ g.min_y) s → Sized vs is (t + 1) narrow r s
   sized_next g y r s n u v =
-      let wide = g.max_x ⊖ g.min_x in
-      let high = g.max_y ⊖ g.min_y in
-      let p : IsNum (wide ⊕ high) = num_of_same (wide ⊕ high) n in
-      let lw = larger width wide r h.num_w (add_num_left _ wide high p) u in
-      let lh = larger height high s h.num_h (add_num_right _ wide high p) v in
+      let p = summed (g.max_x ⊖ g.min_x) (g.max_y ⊖ g.min_y) n in
+      let lw = larger width _ r h.num_w p.0 u in
+      let lh = larger height _ s h.num_h p.1 v in
       record {
         num_w = u.num h.num_w;
         num_h = v.num h.num_h;
@@ -197,21 +195,17 @@ module _
     }
 
     -- one whose sides are numbers, so that its corners could be compared
-    pub measured_next : (a b c : Point) (e g w : Aabb)
-        → Some (a, b, c) ≡ corners_of vs is t → (IsNum e.min_x → IsNum e.min_y → e ≡ around_of a b c) → g ≡ grown_of e → (w ≡ merge_of x g) × Sound w
+    pub measured_next : (k : Triangle) (e g w : Aabb)
+        → Some k ≡ corners_of vs is t → (IsNum e.min_x → IsNum e.min_y → e ≡ around_of k.a k.b k.c) → g ≡ grown_of e → (w ≡ merge_of x g) × Sound w
         → (r s : Float)
         → (let both = (g.max_x ⊖ g.min_x) ⊕ (g.max_y ⊖ g.min_y) in ne both both ≡ false)
         → Picked max_of width (g.max_x ⊖ g.min_x) r → Picked max_of height (g.max_y ⊖ g.min_y) s
         → Measured vs is start (t + 1) (count + 1) w narrow r s
-    measured_next a b c e g w f i j m r s n u v =
-        let wide = g.max_x ⊖ g.min_x in
-        let high = g.max_y ⊖ g.min_y in
-        let p : IsNum (wide ⊕ high) = num_of_same (wide ⊕ high) n in
-        let pw : IsNum wide = add_num_left _ wide high p in
-        let ph : IsNum high = add_num_right _ wide high p in
+    measured_next k e g w f i j m r s n u v =
+        let p = summed (g.max_x ⊖ g.min_x) (g.max_y ⊖ g.min_y) n in
         let back = grown_back e g j in
-        let o : e ≡ around_of a b c = i (back.0 (sub_num_right _ g.max_x g.min_x pw)) (back.1 (sub_num_right _ g.max_y g.min_y ph)) in
-        let y : box_of vs is t ≡ Some g = box_there vs is t a b c e g f o j in
+        let o : e ≡ around_of k.a k.b k.c = i (back.0 (sub_num_right _ g.max_x g.min_x p.0)) (back.1 (sub_num_right _ g.max_y g.min_y p.1)) in
+        let y : box_of vs is t ≡ Some g = box_there vs is t k e g f o j in
         record {
           sound = m.1;
           few = omega (arith, h.few);

@@ -7,6 +7,7 @@ use Rattle.vector.specs.Single.{◌⊕◌, ◌⊖◌, ◌⊗◌, single}
 use Rattle.vector.specs.declared.coords.Point.{Point}
 use Rattle.lookup.specs.Mesh.{corners_of}
 use Rattle.lookup.specs.declared.boxes.Aabb.{Aabb}
+use Rattle.lookup.specs.declared.mesh.Triangle.{Triangle}
 
 -- from the least to the greatest x and y of three corners
 unfoldable pub around_of : Point → Point → Point → Aabb
@@ -34,9 +35,9 @@ grown_of b =
       max_y = b.max_y ⊕ slack_of b;
     }
 
-unfoldable pub grown_box : Option (Point × Point × Point) → Option Aabb
+unfoldable pub grown_box : Option Triangle → Option Aabb
 unfolding around_of grown_of
-grown_box (Some (a, b, c)) = Some (grown_of (around_of a b c))
+grown_box (Some t) = Some (grown_of (around_of t.a t.b t.c))
 grown_box None = None
 
 -- the grown box of triangle t; none if a corner is past the vertices

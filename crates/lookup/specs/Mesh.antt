@@ -4,6 +4,7 @@ use Rattle.vector.specs.Coords.{up_vector}
 use Rattle.vector.specs.declared.coords.Point.{Point}
 use Rattle.vector.specs.declared.coords.Vector.{Vector}
 use Rattle.shape.specs.Lists.{point_at, vector_at}
+use Rattle.lookup.specs.declared.mesh.Triangle.{Triangle}
 
 -- how many whole triangles there are
 abbrev pub triangles : List ℕ → ℕ
@@ -25,9 +26,9 @@ present vs is t =
 abbrev pub corner_of : List Float → List ℕ → ℕ → ℕ → Point
 corner_of vs is t j = point_at vs (index_of is t j)
 
-unfoldable pub corners_of : List Float → List ℕ → ℕ → Option (Point × Point × Point)
+unfoldable pub corners_of : List Float → List ℕ → ℕ → Option Triangle
 unfolding present
-corners_of vs is t = cond (present vs is t) (Some ((corner_of vs is t 0), (corner_of vs is t 1), (corner_of vs is t 2))) None
+corners_of vs is t = cond (present vs is t) (Some (record { a = corner_of vs is t 0; b = corner_of vs is t 1; c = corner_of vs is t 2 })) None
 
 -- the normal of vertex i: "a corner past the normals has normal (0, 0, 1)"
 unfoldable pub normal_at : List Float → ℕ → Vector

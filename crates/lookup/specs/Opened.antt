@@ -9,6 +9,6 @@ use Rattle.lookup.specs.declared.consult.Index.{Index}
 -- what `open` tells holds for every point
 unfoldable pub Opens : List ℕ → ℕ → Result (Option Index) Refusal → Type 0
 unfolding number_of place_of
-Opens ws count (Ok (Some i)) = (i.words.now ≡ ws) × (i.count ≡ count) × Ready ws count i.front
+Opens ws count (Ok (Some i)) = (i.words.now ≡ ws) × (i.count ≡ count) × Ready ws count i.grid.frame i.entries
 Opens ws count (Ok None) = (head_fault ws count ≡ fine) × ((x y : Float) → taken nowhere ≡ consult_of ws count x y)
 Opens ws count (Err r) = head_fault ws count ≡ fault (number_of r) (place_of r)

@@ -5,11 +5,10 @@
 ghost use Rattle.std.specs.Prelude.{◌≡◌, ◌+◌, ◌*◌, ◌/◌, ◌<◌, ◌≤◌, ◌++◌, length, drop};
 ghost use Rattle.shape.specs.Refusal.{told, leaves};
 ghost use Rattle.shape.specs.Lists.{lists_of};
-ghost use Rattle.shape.specs.Memory.{Put};
-ghost use Rattle.lookup.specs.Batch.{record_words, record_at, records_of, tops_of};
+ghost use Rattle.lookup.specs.Batch.{record_words, records_of, tops_of};
 
 use crate::consult::Index;
-use crate::record::{RECORD_WORDS, put_record, words_fit};
+use crate::record::{RECORD_WORDS, record, words_fit};
 use crate::sampler::{Sampler, top_fault};
 use shape::lists::Mesh;
 use shape::refusal::{Refusal, refuse_if};
@@ -21,10 +20,10 @@ fn put_points(sampler: Sampler, points: &[f32], answers: &mut [u32])
         answers.new ≡ rs ++ drop (length rs) answers.old }
 {
     words_fit(sampler.mesh.spans);
-    let mut at: usize = 0;
-    for point in points.chunks_exact(2) {
+    for (k, point) in points.chunks_exact(2).enumerate() {
         let answer = sampler.sample(point[0], point[1]);
-        at = put_record(answers, at, answer);
+        let at = RECORD_WORDS * k;
+        answers[at..at + RECORD_WORDS].copy_from_slice(&record(answer));
     }
 }
 
@@ -44,7 +43,7 @@ pub fn tops(
 {
     top_fault(mesh, index)?;
     refuse_if(points.len() % 2 != 0, Refusal::Ragged(5))?;
-    let opened = Index::open(index, mesh.indices.len() / 3)?;
+    let opened = Index::open(index, mesh.triangles())?;
     let n = points.len() / 2;
     let wanted = RECORD_WORDS * n;
     refuse_if(answers.len() < wanted, Refusal::ShortOutput(wanted))?;

@@ -3,8 +3,8 @@ ghost use Rattle.std.specs.Prelude.{◌≡◌, Some};
 ghost use Rattle.lookup.specs.Box.{around_of, grown_of, merge_of};
 ghost use Rattle.lookup.specs.Frame.{join_of};
 
+use crate::mesh::Triangle;
 use rounding::extremes::{max, min};
-use vector::coords::Point;
 
 // A box on the ground. The bounds stand in this order so that the compiler works the lower ones out in one
 // instruction, and the upper ones.
@@ -16,11 +16,12 @@ pub struct Aabb {
     pub max_y: f32,
 }
 
-// The box around three corners, NaN or not.
+// The box around a triangle, NaN or not.
 #[tactic(auto, unfolding(crate::specs::Box::around_of))]
-pub(crate) fn around_any(a: Point, b: Point, c: Point) -> Aabb
-    ensures { result ≡ around_of a b c }
+pub(crate) fn around_any(t: Triangle) -> Aabb
+    ensures { result ≡ around_of t.a t.b t.c }
 {
+    let Triangle { a, b, c } = t;
     Aabb {
         min_x: min(min(a.x, b.x), c.x),
         max_x: max(max(a.x, b.x), c.x),

@@ -18,18 +18,17 @@ ghost use Rattle.lookup.specs.Index.{block_of, in_cell, cells_of, start};
 ghost use Rattle.lookup.specs.Steps.{Tells, Picked, Sound, Narrow, Reaches, Below, UpTo, Short, opened, kept_in, from, Kept};
 
 use crate::boxes::{Aabb, around_any, grown, join};
-use crate::frame::{Axis, Block, Grid, single};
+use crate::frame::{Axis, Block, Grid};
 use crate::grid::Layout;
-use crate::mesh::corners;
+use crate::mesh::{Triangle, corners};
 use shape::lists::Mesh;
-use vector::coords::Point;
 
 // ---- boxes
 
 // The smaller of two where the first is a number, by one instruction; `min` takes a test more for a NaN in the
-// first. The result is a NaN only where the first is one.
+// first. The result is a NaN only where the first is one. The scan of a run takes it for the least weight too.
 #[tactic(auto, using(crate::proofs::Picking::lower_moves, crate::proofs::Picking::lower_stays))]
-fn lower(x: f32, y: f32) -> f32
+pub(crate) fn lower(x: f32, y: f32) -> f32
     ensures { Picked min_of x y result }
 {
     if y < x { y } else { x }
@@ -43,11 +42,12 @@ fn upper(x: f32, y: f32) -> f32
     if x < y { y } else { x }
 }
 
-// The box around three corners by plain comparisons, right where its lower bounds are numbers. The lower bounds are
+// The box around a triangle by plain comparisons, right where its lower bounds are numbers. The lower bounds are
 // worked out together, and the upper ones, so that the compiler does each pair in one instruction.
-fn compared(a: Point, b: Point, c: Point) -> Aabb
-    ensures { IsNum result.min_x → IsNum result.min_y → result ≡ around_of a b c }
+fn compared(t: Triangle) -> Aabb
+    ensures { IsNum result.min_x → IsNum result.min_y → result ≡ around_of t.a t.b t.c }
 {
+    let Triangle { a, b, c } = t;
     Aabb {
         min_x: lower(lower(a.x, b.x), c.x),
         max_x: upper(upper(a.x, b.x), c.x),
@@ -57,10 +57,10 @@ fn compared(a: Point, b: Point, c: Point) -> Aabb
 }
 
 // The same, or none: a NaN in the first corner makes the sum of the lower bounds a NaN.
-fn around_plain(a: Point, b: Point, c: Point) -> Option<Aabb>
-    ensures { (e : Aabb) → result ≡ Some e → e ≡ around_of a b c }
+fn around_plain(t: Triangle) -> Option<Aabb>
+    ensures { (e : Aabb) → result ≡ Some e → e ≡ around_of t.a t.b t.c }
 {
-    let e = compared(a, b, c);
+    let e = compared(t);
     let both = e.min_x + e.min_y;
     if both != both {
         return None;
@@ -68,14 +68,11 @@ fn around_plain(a: Point, b: Point, c: Point) -> Option<Aabb>
     Some(e)
 }
 
-// The box around three corners: by plain comparisons where its first corner has no NaN.
-fn around(a: Point, b: Point, c: Point) -> Aabb
-    ensures { result ≡ around_of a b c }
+// The box around a triangle: by plain comparisons where its first corner has no NaN.
+fn around(t: Triangle) -> Aabb
+    ensures { result ≡ around_of t.a t.b t.c }
 {
-    match around_plain(a, b, c) {
-        Some(e) => e,
-        None => around_any(a, b, c),
-    }
+    around_plain(t).unwrap_or_else(|| around_any(t))
 }
 
 // Are all bounds numbers?
@@ -131,12 +128,12 @@ impl Checked<'_> {
         let mut narrow = true;
         let mut width: f32 = 0.0;
         let mut height: f32 = 0.0;
-        for t in 0..self.mesh.indices.len() / 3 {
-            let Some((a, b, c)) = corners(self.mesh, t) else {
+        for t in 0..self.mesh.triangles() {
+            let Some(triangle) = corners(self.mesh, t) else {
                 continue;
             };
             count += 1;
-            let g = grown(around(a, b, c));
+            let g = grown(around(triangle));
             extent = Some(join(extent, g));
             let wide = g.max_x - g.min_x;
             let high = g.max_y - g.min_y;
@@ -169,12 +166,12 @@ impl Checked<'_> {
         let mut narrow = true;
         let mut width: f32 = 0.0;
         let mut height: f32 = 0.0;
-        for t in 0..self.mesh.indices.len() / 3 {
-            let Some((a, b, c)) = corners(self.mesh, t) else {
+        for t in 0..self.mesh.triangles() {
+            let Some(triangle) = corners(self.mesh, t) else {
                 continue;
             };
             count += 1;
-            let g = grown(compared(a, b, c));
+            let g = grown(compared(triangle));
             let w = g.max_x - g.min_x;
             let h = g.max_y - g.min_y;
             let min_x = lower(extent.min_x, g.min_x);
@@ -213,10 +210,10 @@ impl Checked<'_> {
     pub(crate) fn tally(self) -> Tally
         ensures { let m = self.entry.mesh in Tells m.vertices.now m.indices.now (triangles m.indices.now) result }
     {
-        let Some((a, b, c)) = corners(self.mesh, 0) else {
+        let Some(triangle) = corners(self.mesh, 0) else {
             return self.tally_any();
         };
-        let first = grown(around(a, b, c));
+        let first = grown(around(triangle));
         if sound(first) && no_nan(self.mesh.vertices) {
             if let Some(tally) = self.tally_on(first) {
                 return tally;
@@ -243,7 +240,8 @@ impl Axis {
     fn cut_straight(self, q: f32) -> usize
         ensures { result ≡ min (to_unsigned 64 q) (self.count - 1) }
     {
-        let c = lower(single(self.count - 1), upper(0.0, q));
+        let last = std::num::nearest_u32_to_f32((self.count - 1) as u32);
+        let c = lower(last, upper(0.0, q));
         let sum = c + 8388608.0;
         let near = f32::to_bits(sum) - 0x4b00_0000;
         (near - below(c, sum - 8388608.0)) as usize
@@ -328,8 +326,8 @@ impl Layout<'_> {
     ghost use Rattle.lookup.specs.Laid.{number, spots};
 
     // Keeps the blocks of the triangles from t on, one at each place, and says whether all have their corners, and no
-    // NaN in the first; one that has not is passed over. Nothing else is kept in this loop: with a second store, as in
-    // `keep_any`, the compiler would no longer work the four columns of a box out at once.
+    // NaN in the first; one that has not is passed over. Nothing else is kept in this loop: with a second store the
+    // compiler would no longer work the four columns of a box out at once.
     #[tactic(auto, using(crate::proofs::Places::kept_there, crate::proofs::Laws::Frames::block_short))]
     fn keep_whole(self, t: usize, blocks: &mut [KeptBlock]) -> bool
         requires { t + length blocks.old ≤ number self }
@@ -338,11 +336,11 @@ impl Layout<'_> {
         let mut whole = true;
         for k in 0..blocks.len() {
             let i = t + k;
-            let Some((a, b, c)) = corners(self.mesh, i) else {
+            let Some(triangle) = corners(self.mesh, i) else {
                 whole = false; // a corner is missing
                 continue;
             };
-            let Some(e) = around_plain(a, b, c) else {
+            let Some(e) = around_plain(triangle) else {
                 whole = false; // it is a NaN
                 continue;
             };
@@ -352,29 +350,35 @@ impl Layout<'_> {
         whole
     }
 
-    // The same, whatever the corners: one that has none keeps a block that starts past its end.
-    #[tactic(auto, using(crate::proofs::Places::kept_there, crate::proofs::Places::kept_missing, crate::proofs::Laws::Frames::block_short))]
+    // The cells of triangle i, whatever its corners: of one without its corners, a block that starts past its end.
+    #[tactic(auto, using(crate::proofs::Picking::block_quick, crate::proofs::Picking::block_missing))]
+    fn block(self, i: usize) -> Block
+        ensures { result ≡ spots self.entry i }
+    {
+        match corners(self.mesh, i) {
+            Some(triangle) => self.grid.block_in(grown(around(triangle))),
+            None => Block {
+                left: 1,
+                right: 0,
+                low: 1,
+                high: 0,
+            },
+        }
+    }
+
+    // The same as `keep_whole`, whatever the corners.
+    #[tactic(auto, using(crate::proofs::Places::kept_next, crate::proofs::Laws::Frames::short_of))]
     fn keep_any(self, t: usize, blocks: &mut [KeptBlock])
         requires { t + length blocks.old ≤ number self }
         ensures { let l = self.entry in Kept (from t (spots l)) (length blocks.new) blocks.new }
     {
         for k in 0..blocks.len() {
-            let Some((a, b, c)) = corners(self.mesh, t + k) else {
-                let none = Block {
-                    left: 1,
-                    right: 0,
-                    low: 1,
-                    high: 0,
-                };
-                keep(none, k, blocks);
-                continue;
-            };
-            keep(self.grid.block_in(grown(around(a, b, c))), k, blocks);
+            keep(self.block(t + k), k, blocks);
         }
     }
 
     // Keeps the blocks of the triangles from t on, one at each place.
-    pub(crate) fn keep_blocks(self, t: usize, blocks: &mut [KeptBlock])
+    fn keep_blocks(self, t: usize, blocks: &mut [KeptBlock])
         requires { t + length blocks.old ≤ number self }
         ensures { let l = self.entry in Kept (from t (spots l)) (length blocks.new) blocks.new }
     {
@@ -391,17 +395,22 @@ impl Layout<'_> {
     {
         let n = blocks.len();
         for t in (0..n).step_by(64) {
-            let m = some_of(n - t);
+            let m = (n - t).min(64);
             self.keep_blocks(t, &mut blocks[t..t + m]);
         }
     }
-}
 
-// How many of the triangles that are left have their blocks kept at once.
-pub(crate) fn some_of(left: usize) -> usize
-    ensures { result ≡ min left 64 }
-{
-    left.min(64)
+    // The blocks of the triangles from t on, in memory that is lent: of 64, or of those that are left.
+    pub(crate) fn next_blocks<'a>(self, t: usize, room: &'a mut [KeptBlock; 64]) -> &'a [KeptBlock]
+        requires { t ≤ number self }
+        ensures many { t + length result.now ≡ min (t + 64) (number self.entry) }
+        ensures kept { let l = self.entry in Kept (from t (spots l)) (length result.now) result.now }
+    {
+        let m = (self.mesh.triangles() - t).min(64);
+        let blocks = &mut room[..m];
+        self.keep_blocks(t, blocks);
+        blocks
+    }
 }
 
 // ---- how many entries there may be
@@ -449,7 +458,8 @@ impl Grid {
     // The most entries that n triangles can have whose boxes are no wider and no higher than this. Where so many fit
     // they need not be counted: building takes about a quarter longer where they are.
     pub(crate) fn most_of(self, n: usize, sides: Sides) -> usize
-        requires { n ≤ 65536 }
+        requires few { n ≤ 65536 }
+        requires width { Width self.frame.cell }
         ensures { ((vs : List Float) (is : List ℕ) → Narrow vs is n sides.width sides.height → start (in_cell vs is self.frame) n (cells_of self.frame) ≤ result) × (result ≤ 2 ^ 36) }
     {
         let across = self.columns().reach_of(sides.width) + 1;

@@ -1,34 +1,22 @@
 // Consulting an index, of any words: what its first words tell, where the candidates of a point stand, and which
 // entry is no triangle. Nothing is believed of the words that is not looked at.
-#![tactic(auto, using(crate::proofs::Fronts::few, crate::proofs::Laws::Column::col_lt, crate::proofs::Laws::Heads::head_sided, crate::proofs::Laws::Heads::consult_none, crate::proofs::Laws::Heads::entry_none, crate::proofs::Laws::Heads::entry_bad, crate::proofs::Laws::Heads::entry_next), unfolding(shape::specs::Refusal::found, shape::specs::Refusal::refuse, shape::specs::Refusal::number_of, shape::specs::Refusal::place_of, shape::specs::Refusal::or_else, shape::specs::Refusal::judge, crate::specs::Consult::float_at, crate::specs::Consult::inside, crate::specs::Consult::cell_at, crate::specs::Consult::run_of, crate::specs::Consult::start_fault, crate::specs::Steps::front_of, crate::specs::Opened::Opens, crate::specs::Steps::cell_or_outside, crate::specs::Steps::Started))]
+#![tactic(auto, using(crate::proofs::Fronts::few, crate::proofs::Fronts::framed_at, crate::proofs::Laws::Column::col_lt, crate::proofs::Laws::Heads::head_sided, crate::proofs::Laws::Heads::consult_none, crate::proofs::Laws::Heads::entry_none, crate::proofs::Laws::Heads::entry_bad, crate::proofs::Laws::Heads::entry_next), unfolding(shape::specs::Refusal::found, shape::specs::Refusal::refuse, shape::specs::Refusal::number_of, shape::specs::Refusal::place_of, shape::specs::Refusal::or_else, shape::specs::Refusal::judge, crate::specs::Consult::float_at, crate::specs::Consult::inside, crate::specs::Consult::cell_at, crate::specs::Consult::run_of, crate::specs::Consult::start_fault, crate::specs::Steps::frame_at, crate::specs::Opened::Opens, crate::specs::Steps::cell_or_outside, crate::specs::Steps::Started))]
 
 ghost use Rattle.std.specs.Prelude.{◌≡◌, ◌-◌, ◌^◌, ◌<◌, ◌≤◌, true, length};
 ghost use Rattle.shape.specs.Refusal.{fine, found};
 ghost use Rattle.lookup.specs.Consult.{float_at, head_fault, entry_fault, run_of, consult_of};
-ghost use Rattle.lookup.specs.Steps.{Ready, Started, front_of, cell_or_outside};
+ghost use Rattle.lookup.specs.Steps.{Ready, Started, frame_at, cell_or_outside};
 
-use crate::frame::Axis;
+use crate::frame::{Frame, Grid};
 use rounding::bits::from_bits32;
 use shape::lists::word_at;
 use shape::refusal::{Refusal, refuse_if};
+use std::ops::Range;
 
 // The most words of an index.
 pub const MAX_WORDS: usize = 4194304;
 
 // ---- the first words
-
-// The words of an index before the starts, but for the first.
-#[derive(Clone, Copy)]
-pub struct Front {
-    pub cols: usize,
-    pub rows: usize,
-    pub min_x: f32,
-    pub min_y: f32,
-    pub max_x: f32,
-    pub max_y: f32,
-    pub cell: f32,
-    pub entries: usize,
-}
 
 // Why the index is not one of a mesh with `count` triangles, before any cell is looked at.
 #[tactic(auto, unfolding(crate::specs::Consult::head_fault, crate::specs::Consult::sides, crate::specs::Consult::declares, shape::specs::Refusal::found, shape::specs::Refusal::refuse, shape::specs::Refusal::number_of, shape::specs::Refusal::place_of))]
@@ -60,11 +48,11 @@ fn float(index: &[u32], i: usize) -> f32
     from_bits32(word_at(index, i) as u32)
 }
 
-// Words 1 to 8.
-fn front_of(index: &[u32]) -> Front
-    ensures { result ≡ front_of index.now }
+// Words 1 to 7.
+fn frame_at(index: &[u32]) -> Frame
+    ensures { result ≡ frame_at index.now }
 {
-    Front {
+    Frame {
         cols: word_at(index, 1),
         rows: word_at(index, 2),
         min_x: float(index, 3),
@@ -72,17 +60,18 @@ fn front_of(index: &[u32]) -> Front
         max_x: float(index, 5),
         max_y: float(index, 6),
         cell: float(index, 7),
-        entries: word_at(index, 8),
     }
 }
 
-// An index that its first words tell to be one of a mesh with `count` triangles and to have cells to consult.
+// An index that its first words tell to be one of a mesh with `count` triangles and to have cells to consult: its
+// grid, and how many entries it has.
 #[derive(Clone, Copy)]
 pub(crate) struct Index<'a> {
     pub words: &'a [u32],
     pub count: usize,
-    pub front: Front,
-    ghost ready: { Ready words.now count front },
+    pub grid: Grid,
+    pub entries: usize,
+    ghost ready: { Ready words.now count grid.frame entries },
 }
 
 impl<'a> Index<'a> {
@@ -100,7 +89,10 @@ impl<'a> Index<'a> {
         Ok(Some(Index {
             words,
             count,
-            front: front_of(words),
+            grid: Grid {
+                frame: frame_at(words),
+            },
+            entries: word_at(words, 8),
         }))
     }
 
@@ -110,39 +102,28 @@ impl<'a> Index<'a> {
     fn cell(self, x: f32, y: f32) -> Option<usize>
         ensures { result ≡ cell_or_outside self.entry.words.now x y }
     {
-        let h = self.front;
-        if h.min_x <= x && x <= h.max_x && h.min_y <= y && y <= h.max_y {
-            let rows = Axis {
-                low: h.min_y,
-                cell: h.cell,
-                count: h.rows,
-            };
-            let columns = Axis {
-                low: h.min_x,
-                cell: h.cell,
-                count: h.cols,
-            };
-            return Some(rows.col(y) * h.cols + columns.col(x));
+        let f = self.grid.frame;
+        if f.min_x <= x && x <= f.max_x && f.min_y <= y && y <= f.max_y {
+            return Some(self.grid.rows().col(y) * f.cols + self.grid.columns().col(x));
         }
         None
     }
 
     // The run of cell c: from which place of the index up to which. Its entries are not looked at.
-    fn run(self, c: usize) -> Result<Option<(usize, usize)>, Refusal>
+    fn run(self, c: usize) -> Result<Option<Range<usize>>, Refusal>
         requires { c < 2 ^ 20 }
         ensures { let ws = self.entry.words.now in let n = self.entry.count in Started ws n (run_of ws n c) result }
     {
-        let entries = self.front.entries;
         let a = word_at(self.words, 9 + c);
         let e = word_at(self.words, 10 + c);
-        refuse_if(entries < a, Refusal::ForeignIndex(9 + c))?;
-        refuse_if(e < a || entries < e, Refusal::ForeignIndex(10 + c))?;
-        let first = 10 + self.front.cols * self.front.rows;
-        Ok(Some((first + a, first + e)))
+        refuse_if(self.entries < a, Refusal::ForeignIndex(9 + c))?;
+        refuse_if(e < a || self.entries < e, Refusal::ForeignIndex(10 + c))?;
+        let first = 10 + self.grid.frame.cols * self.grid.frame.rows;
+        Ok(Some(first + a..first + e))
     }
 
     // Where the candidates of (x, y) stand, if anywhere. The entries are not looked at.
-    pub(crate) fn locate(self, x: f32, y: f32) -> Result<Option<(usize, usize)>, Refusal>
+    pub(crate) fn locate(self, x: f32, y: f32) -> Result<Option<Range<usize>>, Refusal>
         ensures { let ws = self.entry.words.now in let n = self.entry.count in Started ws n (consult_of ws n x y) result }
     {
         let Some(c) = self.cell(x, y) else {
@@ -153,11 +134,11 @@ impl<'a> Index<'a> {
 
     // ---- the entries
 
-    // The first of the entries from a place up to another that is no triangle.
-    fn entry_fault(self, from: usize, to: usize) -> Result<(), Refusal>
-        ensures { found result ≡ entry_fault self.entry.words.now self.entry.count from (to - from) }
+    // The first of the entries of a run that is no triangle.
+    fn entry_fault(self, run: Range<usize>) -> Result<(), Refusal>
+        ensures { found result ≡ entry_fault self.entry.words.now self.entry.count run.start (run.end - run.start) }
     {
-        for i in from..to {
+        for i in run.start..run.end {
             if self.count <= word_at(self.words, i) {
                 return Err(Refusal::ForeignIndex(i));
             }
@@ -165,15 +146,15 @@ impl<'a> Index<'a> {
         Ok(())
     }
 
-    // Why the entries from a to e are turned back, if they are. They are not where the scan has found each of
-    // them to be a whole triangle.
-    pub(crate) fn check_run(self, a: usize, e: usize, whole: bool) -> Result<(), Refusal>
-        requires { let ws = self.words.now in whole ≡ true → e ≤ length ws → entry_fault ws self.count a (e - a) ≡ fine }
-        ensures { found result ≡ entry_fault self.entry.words.now self.entry.count a (e - a) }
+    // Why the entries of a run are turned back, if they are. They are not where the scan has found each of them to
+    // be a whole triangle.
+    pub(crate) fn check_run(self, run: Range<usize>, whole: bool) -> Result<(), Refusal>
+        requires { let ws = self.words.now in whole ≡ true → run.end ≤ length ws → entry_fault ws self.count run.start (run.end - run.start) ≡ fine }
+        ensures { found result ≡ entry_fault self.entry.words.now self.entry.count run.start (run.end - run.start) }
     {
-        if whole && e <= self.words.len() {
+        if whole && run.end <= self.words.len() {
             return Ok(());
         }
-        self.entry_fault(a, e)
+        self.entry_fault(run)
     }
 }

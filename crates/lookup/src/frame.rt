@@ -2,8 +2,8 @@
 ghost use Rattle.std.specs.Prelude.{◌≡◌, ◌+◌, ◌-◌, ◌*◌, ◌<◌, ◌≤◌, min};
 ghost use Rattle.std.specs.Float.{binary32};
 ghost use Rattle.std.specs.Float.Ieee.{to_unsigned};
-ghost use Rattle.lookup.specs.Column.{col, Width, Width-prop};
-ghost use Rattle.lookup.specs.Frame.{count_of, fine_of, side_of, frame_of};
+ghost use Rattle.lookup.specs.Column.{col, Width};
+ghost use Rattle.lookup.specs.Frame.{fine_of, side_of, frame_of};
 ghost use Rattle.lookup.specs.Steps.{Framed};
 
 use crate::boxes::Aabb;
@@ -46,17 +46,9 @@ fn fine(w: f32, h: f32, count: u32) -> f32
 // How many cells a length takes.
 #[tactic(auto, unfolding(crate::specs::Frame::side_of))]
 fn side(w: f32, cell: f32) -> usize
-    ensures { result ≡ side_of w cell }
+    ensures { (result ≡ side_of w cell) × (result ≤ 1024) }
 {
     (count(ceil(w / cell)) as usize).max(1).min(MAX_DIM)
-}
-
-// A count of cells as a float.
-pub(crate) fn single(n: usize) -> f32
-    requires { n ≤ 1024 }
-    ensures { result ≡ count_of n }
-{
-    std::num::nearest_u32_to_f32(n as u32)
 }
 
 // The frame of the grid over an extent: the cell's side is worked out anew from the counts, so that the
@@ -69,12 +61,14 @@ pub(crate) fn frame_of(e: Aabb, count: u32) -> Frame
     let first = fine(w, h, count);
     let cols = side(w, first);
     let rows = side(h, first);
+    let across = std::num::nearest_u32_to_f32(cols as u32);
+    let along = std::num::nearest_u32_to_f32(rows as u32);
     Frame {
         min_x: e.min_x,
         min_y: e.min_y,
         max_x: e.max_x,
         max_y: e.max_y,
-        cell: max(max(w / single(cols), h / single(rows)), 1e-3),
+        cell: max(max(w / across, h / along), 1e-3),
         cols,
         rows,
     }
@@ -125,19 +119,18 @@ impl Axis {
 
 // ---- the grid
 
-// A frame that has a cell at least on each side, and few enough, of a width that is one.
+// A frame that has a cell at least on each side, and few enough.
 #[derive(Clone, Copy)]
 pub(crate) struct Grid {
     pub frame: Frame,
     ghost framed: { Framed frame },
-    ghost width: { Width frame.cell } by { Width-prop frame.cell },
 }
 
 impl Grid {
     // The grid over an extent.
     #[tactic(auto, using(crate::proofs::Laws::Frames::framed, crate::proofs::Chain::frame_width))]
     pub(crate) fn over(e: Aabb, count: u32) -> Grid
-        ensures { result.frame ≡ frame_of e count }
+        ensures { (result.frame ≡ frame_of e count) × Width result.frame.cell }
     {
         Grid {
             frame: frame_of(e, count),

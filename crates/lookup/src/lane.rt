@@ -77,9 +77,7 @@ impl Spans<'_> {
     {
         let k = self.past(3 * t)?;
         let records = Records::<SPAN_WORDS> { words: self.words };
-        if 3 * t < records.word(k, SPAN_INDICES) {
-            return None;
-        }
-        Some(records.word(k, SPAN_ID))
+        let begun = records.word(k, SPAN_INDICES) <= 3 * t;
+        begun.then_some(records.word(k, SPAN_ID))
     }
 }

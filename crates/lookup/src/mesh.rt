@@ -1,19 +1,28 @@
 // Triangles of a mesh, and the plain lookup over them.
 #![tactic(auto, unfolding(crate::specs::Mesh::corners_of, crate::specs::Mesh::present, crate::specs::Mesh::normal_at, crate::specs::Cover::det_of, crate::specs::Cover::over_a, crate::specs::Cover::weight_a, crate::specs::Cover::weight_b, crate::specs::Cover::weights_of, crate::specs::Cover::weights_inside, crate::specs::Cover::lift_of, crate::specs::Cover::smooth_of, crate::specs::Cover::flat_of, crate::specs::Cover::face_up, crate::specs::Cover::blend_of, crate::specs::Plain::higher_of, crate::specs::Sixteen::ground_at, vector::specs::Coords::up_vector))]
 
-ghost use Rattle.std.specs.Prelude.{◌≡◌, ◌+◌, ◌*◌, ◌^◌, ◌<◌, ◌≤◌, true, false, ◌⊎◌, length, Some, None};
+ghost use Rattle.std.specs.Prelude.{◌≡◌, ◌+◌, ◌*◌, ◌^◌, ◌<◌, ◌≤◌, true, false, length, Some, None};
 ghost use Rattle.std.specs.Float.Ieee.{lt};
 ghost use Rattle.shape.specs.Lists.{lists_of};
 ghost use Rattle.lookup.specs.Mesh.{corners_of, normal_at, triangles};
 ghost use Rattle.lookup.specs.Cover.{slack, det_of, over_a, weight_a, weight_b, weights_of, weights_inside, lift_of, face_up, smooth_of, blend_of, flat_of, normal_of};
-ghost use Rattle.lookup.specs.Plain.{higher_of, scan_of, entry_of, read_answer, answer_of};
+ghost use Rattle.lookup.specs.Plain.{higher_of, scan_of, read_answer, answer_of};
 ghost use Rattle.lookup.specs.Sixteen.{ground_at, Grounded, Gathered, AllLow, Passing, Weighed, Weighs, best_of, scan_on, PeakWeighed, HitOf};
 
 use crate::boxes::EDGE_SLACK;
+use crate::build_fast::lower;
 use rounding::extremes::abs;
 use shape::lists::{Mesh, point_at, vector_at, word_at};
 use shape::refusal::Refusal;
 use vector::coords::{Point, Vector};
+
+// A triangle by its corners.
+#[derive(Clone, Copy)]
+pub struct Triangle {
+    pub a: Point,
+    pub b: Point,
+    pub c: Point,
+}
 
 // The weights of the three corners at a point, and the determinant that they were divided by.
 #[derive(Clone, Copy)]
@@ -40,13 +49,13 @@ pub struct Found {
 }
 
 // The corners of triangle t, or none where one lies past the vertices.
-pub fn corners(mesh: Mesh, t: usize) -> Option<(Point, Point, Point)>
+pub fn corners(mesh: Mesh, t: usize) -> Option<Triangle>
     ensures { result ≡ corners_of mesh.entry.vertices.now mesh.entry.indices.now t }
 {
-    if mesh.indices.len() / 3 <= t {
+    if mesh.triangles() <= t {
         return None;
     }
-    let n = mesh.vertices.len() / 3;
+    let n = mesh.points();
     let at = 3 * t;
     let i = mesh.indices[at] as usize;
     if n <= i {
@@ -60,79 +69,83 @@ pub fn corners(mesh: Mesh, t: usize) -> Option<(Point, Point, Point)>
     if n <= k {
         return None;
     }
-    Some((
-        point_at(mesh.vertices, i),
-        point_at(mesh.vertices, j),
-        point_at(mesh.vertices, k),
-    ))
+    Some(Triangle {
+        a: point_at(mesh.vertices, i),
+        b: point_at(mesh.vertices, j),
+        c: point_at(mesh.vertices, k),
+    })
 }
 
-// Twice the triangle's area as seen from above, positive where a, b and c turn left.
-fn det(a: Point, b: Point, c: Point) -> f32
-    ensures { result ≡ det_of a b c }
-{
-    (b.y - c.y) * (a.x - c.x) + (c.x - b.x) * (a.y - c.y)
-}
-
-// The weight of corner a at (x, y), times the determinant.
-fn over_a(b: Point, c: Point, x: f32, y: f32) -> f32
-    ensures { result ≡ over_a b c x y }
-{
-    (b.y - c.y) * (x - c.x) + (c.x - b.x) * (y - c.y)
-}
-
-// The weight of corner a at (x, y).
-fn weight_a(a: Point, b: Point, c: Point, x: f32, y: f32) -> f32
-    ensures { result ≡ weight_a a b c x y }
-{
-    over_a(b, c, x, y) / det(a, b, c)
-}
-
-// The weight of corner b at (x, y).
-fn weight_b(a: Point, b: Point, c: Point, x: f32, y: f32) -> f32
-    ensures { result ≡ weight_b a b c x y }
-{
-    ((c.y - a.y) * (x - c.x) + (a.x - c.x) * (y - c.y)) / det(a, b, c)
-}
-
-// The weights of the corners at (x, y), in the triangle's view from above.
-pub fn weigh(a: Point, b: Point, c: Point, x: f32, y: f32) -> Weights
-    ensures { result ≡ weights_of a b c x y }
-{
-    let l1 = weight_a(a, b, c, x, y);
-    let l2 = weight_b(a, b, c, x, y);
-    Weights {
-        det: det(a, b, c),
-        a: l1,
-        b: l2,
-        c: 1.0 - l1 - l2,
+impl Triangle {
+    // Twice its area as seen from above, positive where a, b and c turn left.
+    fn det(self) -> f32
+        ensures { result ≡ det_of self.a self.b self.c }
+    {
+        let Triangle { a, b, c } = self;
+        (b.y - c.y) * (a.x - c.x) + (c.x - b.x) * (a.y - c.y)
     }
-}
 
-// Is the point so far off that the weight of corner a tells? Above 2 in size it is itself too low, or
-// what it leaves for b and c is. Nearly all triangles of a mesh go by this one test, and all one way.
-// A NaN is left to the full test. Asking for it between the two sums keeps the compiler from weaving
-// them into one, which costs more than it saves.
-#[tactic(auto, using(crate::proofs::Distant::far_outside), unfolding(crate::specs::Cover::weight_a))]
-fn clearly_outside(a: Point, b: Point, c: Point, x: f32, y: f32) -> bool
-    ensures { result ≡ true → weights_inside (weights_of a b c x y) ≡ false }
-{
-    let over = over_a(b, c, x, y);
-    if over != over {
-        return false;
+    // The weight of corner a at (x, y), times the determinant.
+    fn over_a(self, x: f32, y: f32) -> f32
+        ensures { result ≡ over_a self.b self.c x y }
+    {
+        let Triangle { b, c, .. } = self;
+        (b.y - c.y) * (x - c.x) + (c.x - b.x) * (y - c.y)
     }
-    let l1 = over / det(a, b, c);
-    l1 * l1 > 4.0
-}
 
-// The lesser of two numbers; the second where one is a NaN. It takes no branch.
-fn lesser(x: f32, y: f32) -> f32
-    ensures { (result ≡ x) ⊎ (result ≡ y) }
-{
-    if x < y {
-        return x;
+    // The weight of corner a at (x, y).
+    fn weight_a(self, x: f32, y: f32) -> f32
+        ensures { result ≡ weight_a self.a self.b self.c x y }
+    {
+        self.over_a(x, y) / self.det()
     }
-    y
+
+    // The weight of corner b at (x, y).
+    fn weight_b(self, x: f32, y: f32) -> f32
+        ensures { result ≡ weight_b self.a self.b self.c x y }
+    {
+        let Triangle { a, c, .. } = self;
+        ((c.y - a.y) * (x - c.x) + (a.x - c.x) * (y - c.y)) / self.det()
+    }
+
+    // The weights of the corners at (x, y), in the view from above.
+    pub fn weigh(self, x: f32, y: f32) -> Weights
+        ensures { result ≡ weights_of self.a self.b self.c x y }
+    {
+        let l1 = self.weight_a(x, y);
+        let l2 = self.weight_b(x, y);
+        Weights {
+            det: self.det(),
+            a: l1,
+            b: l2,
+            c: 1.0 - l1 - l2,
+        }
+    }
+
+    // Is the point so far off that the weight of corner a tells? Above 2 in size it is itself too low, or
+    // what it leaves for b and c is. Nearly all triangles of a mesh go by this one test, and all one way.
+    // A NaN is left to the full test. Asking for it between the two sums keeps the compiler from weaving
+    // them into one, which costs more than it saves.
+    #[tactic(auto, using(crate::proofs::Distant::far_outside), unfolding(crate::specs::Cover::weight_a))]
+    fn clearly_outside(self, x: f32, y: f32) -> bool
+        ensures { result ≡ true → weights_inside (weights_of self.a self.b self.c x y) ≡ false }
+    {
+        let over = self.over_a(x, y);
+        if over != over {
+            return false;
+        }
+        let l1 = over / self.det();
+        l1 * l1 > 4.0
+    }
+
+    // Its own direction.
+    fn flat(self) -> Vector
+        ensures { result ≡ flat_of self.a self.b self.c }
+    {
+        (self.b - self.a)
+            .cross(self.c - self.a)
+            .normalize_or(Vector::Z)
+    }
 }
 
 impl Weights {
@@ -140,7 +153,7 @@ impl Weights {
     fn least(self) -> f32
         ensures { lt result slack ≡ true → weights_inside self ≡ false }
     {
-        lesser(lesser(self.a, self.b), self.c)
+        lower(self.c, lower(self.b, self.a))
     }
 
     // Has the triangle a footprint, and does the point lie in it? A NaN among the weights fails its test.
@@ -154,10 +167,10 @@ impl Weights {
     }
 
     // The triangle's height at the point.
-    pub fn height(self, a: Point, b: Point, c: Point) -> f32
-        ensures { result ≡ lift_of self a.z b.z c.z }
+    pub fn height(self, t: Triangle) -> f32
+        ensures { result ≡ lift_of self t.a.z t.b.z t.c.z }
     {
-        self.a * a.z + self.b * b.z + self.c * c.z
+        self.a * t.a.z + self.b * t.b.z + self.c * t.c.z
     }
 
     // The direction of the corners' normals by their weights.
@@ -192,13 +205,6 @@ fn normal_at(normals: &[f32], i: usize) -> Vector
     Vector::Z
 }
 
-// The triangle's own direction.
-fn flat(a: Point, b: Point, c: Point) -> Vector
-    ensures { result ≡ flat_of a b c }
-{
-    (b - a).cross(c - a).normalize_or(Vector::Z)
-}
-
 // Turned over where it points down, whichever way round the triangle's corners go.
 fn face_up(n: Vector) -> Vector
     ensures { result ≡ face_up n }
@@ -227,13 +233,13 @@ fn blend(mesh: Mesh, t: usize, w: Weights) -> Vector
 pub fn normal_of(mesh: Mesh, t: usize, x: f32, y: f32) -> Vector
     ensures { let m = lists_of mesh.entry in result ≡ normal_of m.vertices m.normals m.indices t x y }
 {
-    let Some((a, b, c)) = corners(mesh, t) else {
+    let Some(triangle) = corners(mesh, t) else {
         return Vector::Z;
     };
-    if mesh.vertices.len() / 3 < mesh.normals.len() / 3 {
-        return face_up(flat(a, b, c));
+    if mesh.points() < mesh.normals.len() / 3 {
+        return face_up(triangle.flat());
     }
-    face_up(blend(mesh, t, weigh(a, b, c, x, y)))
+    face_up(blend(mesh, t, triangle.weigh(x, y)))
 }
 
 // The same where w are the weights of the triangle's corners at (x, y), and it is there.
@@ -242,7 +248,7 @@ pub(crate) fn normal_by(mesh: Mesh, t: usize, x: f32, y: f32, w: Weights) -> Vec
     requires { Weighs mesh.vertices.now mesh.indices.now x y t w }
     ensures { let m = lists_of mesh.entry in result ≡ normal_of m.vertices m.normals m.indices t x y }
 {
-    if mesh.vertices.len() / 3 < mesh.normals.len() / 3 {
+    if mesh.points() < mesh.normals.len() / 3 {
         return normal_of(mesh, t, x, y);
     }
     face_up(blend(mesh, t, w))
@@ -291,26 +297,30 @@ fn gather(
 {
     let mut whole = true;
     for (k, t) in part.iter().enumerate() {
-        let Some((a, b, c)) = corners(mesh, *t as usize) else {
+        let Some(triangle) = corners(mesh, *t as usize) else {
             whole = false;
             continue;
         };
-        put_ground(first, k, a);
-        put_ground(second, k, b);
-        put_ground(third, k, c);
+        put_ground(first, k, triangle.a);
+        put_ground(second, k, triangle.b);
+        put_ground(third, k, triangle.c);
     }
     whole
 }
 
-// The least weight of each of n triangles. With nothing else in the loop the compiler takes four at a time.
+// The least weight of each triangle of three rows. With nothing else in the loop the compiler takes four at a time.
 #[tactic(auto, using(crate::proofs::Sixteens::low_step))]
-fn weigh_all(a: &[f32], b: &[f32], c: &[f32], n: usize, x: f32, y: f32, low: &mut [f32])
-    requires { (2 * n ≤ length a.now) × (2 * n ≤ length b.now) × (2 * n ≤ length c.now) × (n ≤ length low.old) }
-    ensures { AllLow a.now b.now c.now x y low.new n }
+fn weigh_all(a: &[f32], b: &[f32], c: &[f32], x: f32, y: f32, low: &mut [f32])
+    requires { let n = length low.old in (2 * n ≤ length a.now) × (2 * n ≤ length b.now) × (2 * n ≤ length c.now) }
+    ensures { AllLow a.now b.now c.now x y low.new (length low.new) }
 {
-    for k in 0..n {
-        let w = weigh(ground_at(a, k), ground_at(b, k), ground_at(c, k), x, y);
-        low[k] = w.least();
+    for k in 0..low.len() {
+        let triangle = Triangle {
+            a: ground_at(a, k),
+            b: ground_at(b, k),
+            c: ground_at(c, k),
+        };
+        low[k] = triangle.weigh(x, y).least();
     }
 }
 
@@ -334,16 +344,19 @@ fn low_turns(
         if low[k] < -EDGE_SLACK {
             continue;
         }
-        let triangle = *t as usize;
-        let Some((a, b, c)) = corners(mesh, triangle) else {
+        let number = *t as usize;
+        let Some(triangle) = corners(mesh, number) else {
             continue;
         };
-        let weights = weigh(a, b, c, x, y);
+        let weights = triangle.weigh(x, y);
         if !weights.inside() {
             continue;
         }
-        let height = weights.height(a, b, c);
-        let found = WeighedTriangle { triangle, weights };
+        let height = weights.height(triangle);
+        let found = WeighedTriangle {
+            triangle: number,
+            weights,
+        };
         peak = higher(peak, height, found);
     }
     peak
@@ -374,7 +387,8 @@ fn weigh_part(
     ensures { Weighed mesh.entry.vertices.now mesh.entry.indices.now x y part.now (length part.now) low.new result }
 {
     let whole = gather(mesh, part, a, b, c);
-    weigh_all(a, b, c, next_fourth(part.len()), x, y, low);
+    let n = next_fourth(part.len());
+    weigh_all(a, b, c, x, y, &mut low[..n]);
     whole
 }
 
@@ -400,24 +414,26 @@ pub(crate) fn highest(mesh: Mesh, run: &[u32], x: f32, y: f32) -> Hit
 
 // ---- the plain lookup
 
-// The best of all triangles, by their numbers.
+// The best of all triangles, by their numbers. A function of its own, since behind the refusals of its caller the
+// compiler would take the loop for one that is seldom reached, and lay it out so: about a tenth slower.
+#[inline(never)]
 #[tactic(auto, unfolding(crate::specs::Plain::scan_of, crate::specs::Plain::scan_by, crate::specs::Fold::fold_of, crate::specs::Cover::covers, crate::specs::Cover::height_of, crate::specs::Cover::weights_at, crate::specs::Mesh::corners_of))]
 fn highest_of_all(mesh: Mesh, x: f32, y: f32) -> Option<(f32, usize)>
     ensures { let m = lists_of mesh.entry in result ≡ scan_of m.vertices m.indices x y (λ t. t) (triangles m.indices) }
 {
     let mut best = None;
-    for t in 0..mesh.indices.len() / 3 {
-        let Some((a, b, c)) = corners(mesh, t) else {
+    for t in 0..mesh.triangles() {
+        let Some(triangle) = corners(mesh, t) else {
             continue;
         };
-        if clearly_outside(a, b, c, x, y) {
+        if triangle.clearly_outside(x, y) {
             continue;
         }
-        let w = weigh(a, b, c, x, y);
+        let w = triangle.weigh(x, y);
         if !w.inside() {
             continue;
         }
-        best = higher(best, w.height(a, b, c), t);
+        best = higher(best, w.height(triangle), t);
     }
     best
 }

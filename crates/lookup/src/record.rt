@@ -2,14 +2,13 @@
 // id; none: zeros; refused: 2, number, place. And the two lookups at one point, answered by it.
 #![tactic(auto, using(crate::proofs::Laws::Batch::word_is), unfolding(shape::specs::Refusal::found, shape::specs::Refusal::refuse, shape::specs::Refusal::number_of, shape::specs::Refusal::place_of, shape::specs::Refusal::told, shape::specs::Refusal::leaves, shape::specs::Refusal::judge, crate::specs::Batch::record_of, crate::specs::Batch::lane_there, crate::specs::Batch::lane_id, crate::specs::Batch::word_for, crate::specs::Sampler::read_sampled, crate::specs::Plain::read_answer, crate::specs::Record::RecordFits, crate::specs::Record::plain_sample))]
 
-ghost use Rattle.std.specs.Prelude.{◌≡◌, ℕ, ◌+◌, ◌^◌, ◌<◌, ◌≤◌, [], ◌∷◌, length, slice_index, None};
+ghost use Rattle.std.specs.Prelude.{◌≡◌, ℕ, ◌^◌, ◌<◌, length, slice_index, None};
 ghost use Rattle.shape.specs.Lists.{lists_of};
-ghost use Rattle.shape.specs.Memory.{Put};
 ghost use Rattle.shape.specs.Refusal.{taken, told, leaves};
 ghost use Rattle.lookup.specs.Plain.{answer_of, read_answer};
 ghost use Rattle.lookup.specs.Sampler.{Sample, read_sampled, top_of};
-ghost use Rattle.lookup.specs.Batch.{record_words, word_for, record_of};
-ghost use Rattle.lookup.specs.Record.{plain_sample, room_for, record_answer, RecordFits};
+ghost use Rattle.lookup.specs.Batch.{word_for, record_of};
+ghost use Rattle.lookup.specs.Record.{plain_sample, record_answer, RecordFits};
 
 use crate::mesh::{Found, height_at};
 use crate::sampler::{Detail, Sampled, top};
@@ -21,7 +20,7 @@ use shape::refusal::{Refusal, refuse_if};
 pub fn word(n: usize) -> u32
     ensures { result ≡ word_for n }
 {
-    n.min(0xffff_ffff) as u32
+    u32::try_from(n).unwrap_or(u32::MAX)
 }
 
 // How many words a record has: `record_words` of the definitions.
@@ -33,7 +32,7 @@ pub(crate) fn words_fit(_words: &[u32])
 {}
 
 // The record of a point's answer.
-fn record(s: Result<Option<Sampled>, Refusal>) -> [u32; RECORD_WORDS]
+pub(crate) fn record(s: Result<Option<Sampled>, Refusal>) -> [u32; RECORD_WORDS]
     requires { RecordFits (read_sampled s) }
     ensures { result ≡ record_of (read_sampled s) }
 {
@@ -53,17 +52,6 @@ fn record(s: Result<Option<Sampled>, Refusal>) -> [u32; RECORD_WORDS]
     }
 }
 
-// The record of a point's answer from `at` on, and where it ends.
-pub(crate) fn put_record(out: &mut [u32], at: usize, s: Result<Option<Sampled>, Refusal>) -> usize
-    requires record_words_in_bounds { at + record_words ≤ length out.old }
-    requires record_fits { RecordFits (read_sampled s) }
-    ensures { Put out.old out.new at (record_of (read_sampled s)) result }
-{
-    let next = at + RECORD_WORDS;
-    out[at..next].copy_from_slice(&record(s));
-    next
-}
-
 // The record of an answer at the front: 1 where it has a height, 0 where it has none. One that is refused writes
 // nothing.
 #[tactic(auto, unfolding(crate::specs::Record::record_answer, crate::specs::Record::RecordFits, crate::specs::Sampler::read_sampled, shape::specs::Refusal::told, shape::specs::Refusal::leaves, shape::specs::Refusal::judge, shape::specs::Refusal::found, shape::specs::Refusal::refuse, shape::specs::Refusal::number_of, shape::specs::Refusal::place_of))]
@@ -77,7 +65,7 @@ fn answer_by(words: &mut [u32], s: Result<Option<Sampled>, Refusal>) -> Result<u
         words.len() < RECORD_WORDS,
         Refusal::ShortOutput(RECORD_WORDS),
     )?;
-    put_record(words, 0, s);
+    words[..RECORD_WORDS].copy_from_slice(&record(s));
     Ok(found.is_some() as usize)
 }
 

@@ -84,11 +84,12 @@ impl<'a> Sampler<'a> {
     pub(crate) fn sample(self, x: f32, y: f32) -> Result<Option<Sampled>, Refusal>
         ensures { read_sampled result ≡ top_of (lists_of self.entry.mesh) self.entry.index.words.now x y }
     {
-        let Some((from, to)) = self.index.locate(x, y)? else {
+        let Some(run) = self.index.locate(x, y)? else {
             return Ok(None);
         };
-        let hit = highest(self.mesh, part(self.index.words, from, to), x, y);
-        self.index.check_run(from, to, hit.whole)?;
+        let entries = part(self.index.words, run.start, run.end);
+        let hit = highest(self.mesh, entries, x, y);
+        self.index.check_run(run, hit.whole)?;
         Ok(self.answer(x, y, hit.peak))
     }
 }
@@ -99,7 +100,7 @@ pub fn top(mesh: Mesh, index: &[u32], x: f32, y: f32) -> Result<Option<Sampled>,
     ensures { read_sampled result ≡ top_of (lists_of mesh.entry) index.now x y }
 {
     top_fault(mesh, index)?;
-    match Index::open(index, mesh.indices.len() / 3)? {
+    match Index::open(index, mesh.triangles())? {
         Some(index) => Sampler { mesh, index }.sample(x, y),
         None => Ok(None),
     }

@@ -7,7 +7,7 @@ use stored::lent::Case;
 
 // ---- patch
 
-pub fn patch_case(case: &mut Case, answer: &mut Answer) -> Option<()> {
+pub(crate) fn patch_case(case: &mut Case, answer: &mut Answer) -> Option<()> {
     let mut m = [0.0f64; 16];
     for x in m.iter_mut() {
         *x = case.double();
@@ -27,7 +27,7 @@ fn spot(case: &mut Case) -> Option<f64> {
     there.then_some(z)
 }
 
-pub fn slopes_case(case: &mut Case, answer: &mut Answer) -> Option<()> {
+pub(crate) fn slopes_case(case: &mut Case, answer: &mut Answer) -> Option<()> {
     let slopes = row_slopes(Line {
         before: spot(case),
         first: spot(case),
@@ -48,7 +48,7 @@ pub fn slopes_case(case: &mut Case, answer: &mut Answer) -> Option<()> {
 // ---- heights
 
 // The numbers of a grid.
-pub fn grid(case: &mut Case) -> ElevationGrid {
+pub(crate) fn grid(case: &mut Case) -> ElevationGrid {
     ElevationGrid {
         origin_x: case.double(),
         origin_y: case.double(),

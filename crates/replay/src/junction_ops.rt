@@ -9,7 +9,7 @@ use stored::lent::{BLANK, BLANK_WORD, Case};
 
 // ---- ear_clip
 
-pub fn ear_case(case: &mut Case, answer: &mut Answer) -> Option<()> {
+pub(crate) fn ear_case(case: &mut Case, answer: &mut Answer) -> Option<()> {
     let mut points = [0.0f32; 3100];
     let mut ears = [BLANK_WORD; 3100];
     let points = case.list(&mut points)?;
@@ -46,7 +46,7 @@ fn ground(
 }
 
 // Whether there is a grid, its numbers, the ring and the lists of the heights.
-pub fn junction_case(case: &mut Case, answer: &mut Answer) -> Option<()> {
+pub(crate) fn junction_case(case: &mut Case, answer: &mut Answer) -> Option<()> {
     let mut ring = [0.0f32; 3100];
     let mut rows = [0u32; 6200];
     let mut left = [0.0f64; 2100];

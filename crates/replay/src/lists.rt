@@ -12,7 +12,7 @@ pub struct MeshMemory {
 }
 
 impl MeshMemory {
-    pub fn new() -> MeshMemory {
+    pub(crate) fn new() -> MeshMemory {
         MeshMemory {
             vertices: [0.0; 196620],
             normals: [0.0; 196620],
@@ -22,7 +22,7 @@ impl MeshMemory {
     }
 
     // The next four lists of a case as a mesh, if there is room for them.
-    pub fn mesh<'m>(&'m mut self, case: &mut Case) -> Option<Mesh<'m>> {
+    pub(crate) fn mesh<'m>(&'m mut self, case: &mut Case) -> Option<Mesh<'m>> {
         let MeshMemory {
             vertices,
             normals,

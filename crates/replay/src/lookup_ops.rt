@@ -56,7 +56,7 @@ fn put_sample(answer: &mut Answer, sampled: Result<Option<Sampled>, Refusal>) {
 // ---- what a case gives after the mesh
 
 // The points asked of the mesh itself.
-pub fn plain_case(case: &mut Case, answer: &mut Answer) -> Option<()> {
+pub(crate) fn plain_case(case: &mut Case, answer: &mut Answer) -> Option<()> {
     let mut memory = MeshMemory::new();
     let mut points = [0.0f32; 256];
     let mesh = memory.mesh(case)?;
@@ -69,7 +69,7 @@ pub fn plain_case(case: &mut Case, answer: &mut Answer) -> Option<()> {
 }
 
 // The room for an index.
-pub fn build_case(case: &mut Case, answer: &mut Answer) -> Option<()> {
+pub(crate) fn build_case(case: &mut Case, answer: &mut Answer) -> Option<()> {
     let mut memory = MeshMemory::new();
     let mut index = [BLANK_WORD; 16384];
     let mesh = memory.mesh(case)?;
@@ -80,7 +80,7 @@ pub fn build_case(case: &mut Case, answer: &mut Answer) -> Option<()> {
 }
 
 // The points asked of an index one by one.
-pub fn singly(
+pub(crate) fn singly(
     _: &mut Case,
     mesh: Mesh,
     index: &[u32],
@@ -95,7 +95,7 @@ pub fn singly(
 }
 
 // The points asked of an index in one call, where the case gives the room for their records next.
-pub fn at_once(
+pub(crate) fn at_once(
     case: &mut Case,
     mesh: Mesh,
     index: &[u32],

@@ -20,7 +20,7 @@ use std::io;
 use std::io::Read;
 use stored::answer::Answer;
 use stored::stream::Words;
-use stored::text::{Tally, block_line, last_line};
+use stored::text::{Block, Tally, Total};
 
 // How a case came out.
 #[derive(Clone, Copy)]
@@ -30,10 +30,10 @@ enum Outcome {
     Skipped,
 }
 
-impl Outcome {
-    // The tally of this one case.
-    fn tally(self) -> Tally {
-        match self {
+// The tally of this one case.
+impl From<Outcome> for Tally {
+    fn from(outcome: Outcome) -> Tally {
+        match outcome {
             Outcome::Same => Tally {
                 cases: 1,
                 differ: 0,
@@ -88,62 +88,61 @@ fn case<R: Read>(op: Option<Op>, input: &mut Words<R>, memory: &mut Memory) -> O
     Some(judge(op, given, made, wanted))
 }
 
-// The tally of the n cases of an operation, or of those before the list is broken, and the number of the first that
-// differs, from 0.
-fn cases<R: Read>(
-    op: Option<Op>,
-    n: u32,
-    input: &mut Words<R>,
-    memory: &mut Memory,
-) -> (Tally, Option<u32>) {
-    let mut tally = Tally::default();
-    let mut first = None;
+// The n cases of an operation, or those before the list is broken.
+fn cases<R: Read>(op: Option<Op>, n: u32, input: &mut Words<R>, memory: &mut Memory) -> Block {
+    let mut block = Block::default();
     for i in 0..n {
         let Some(outcome) = case(op, input, memory) else {
             break;
         };
-        tally = tally + outcome.tally();
-        if tally.differ > 0 && first.is_none() {
-            first = Some(i);
+        block.tally = block.tally + outcome.into();
+        if block.tally.differ > 0 && block.first.is_none() {
+            block.first = Some(i);
         }
     }
-    (tally, first)
+    block
 }
 
-// The name of an operation in its line.
-fn print_name(out: &impl Print, op: Option<Op>) -> io::Result<()> {
+// The line of an operation.
+fn print_block(out: &impl Print, op: Option<Op>, block: Block) -> io::Result<()> {
     match op {
-        Some(op) => print!(out; "{op}"),
-        None => print!(out; "unknown operation"),
+        Some(op) => println!(out; "{op}: {block}"),
+        None => println!(out; "unknown operation: {block}"),
     }
 }
 
-// Block after block: the tally of all, and whether the list is broken. It ends well between two blocks, with no
+// Block after block: all of them, and whether the list is broken. It ends well between two blocks, with no
 // bytes left over. A proved loop has to end, and nothing says that the input does, so the turns are counted, up to a
 // number that no run comes to.
 fn replay<R: Read>(
     out: &impl Print,
     input: &mut Words<R>,
     memory: &mut Memory,
-) -> io::Result<(Tally, bool)> {
-    let mut all = Tally::default();
+) -> io::Result<Total> {
+    let mut tally = Tally::default();
+    let mut whole = true;
     for _ in 0..u64::MAX {
         let Some(number) = input.word() else {
-            return Ok((all, input.is_torn()));
+            whole = !input.is_torn();
+            break;
         };
         let Some(n) = input.word() else {
-            return Ok((all, true));
+            whole = false;
+            break;
         };
         let op = Op::try_from(number).ok();
-        let (tally, first) = cases(op, n, input, memory);
-        print_name(out, op)?;
-        block_line(out, tally, first)?;
-        all = all + tally;
-        if tally.cases < n as u64 {
-            return Ok((all, true));
+        let block = cases(op, n, input, memory);
+        print_block(out, op, block)?;
+        tally = tally + block.tally;
+        if block.tally.cases < n as u64 {
+            whole = false;
+            break;
         }
     }
-    Ok((all, false))
+    Ok(Total {
+        tally,
+        broken: (!whole).then_some(input.count()),
+    })
 }
 
 fn main(rt: HostRuntime) -> io::Result<()> {
@@ -153,6 +152,6 @@ fn main(rt: HostRuntime) -> io::Result<()> {
         wanted: [0; 32768],
         made: [0; 32768],
     };
-    let (tally, broken) = replay(&rt, &mut input, &mut memory)?;
-    last_line(&rt, tally, broken, input.count())
+    let all = replay(&rt, &mut input, &mut memory)?;
+    println!(rt; "all: {all}")
 }

@@ -5,7 +5,7 @@ use shape::strip::no_area;
 use stored::answer::Answer;
 use stored::lent::{BLANK, BLANK_WORD, Case};
 
-pub fn no_area_case(case: &mut Case, answer: &mut Answer) -> Option<()> {
+pub(crate) fn no_area_case(case: &mut Case, answer: &mut Answer) -> Option<()> {
     answer.test(no_area(case.point(), case.point(), case.point()));
     Some(())
 }
@@ -41,7 +41,7 @@ fn strips(case: &mut Case, lanes: Lanes, answer: &mut Answer) -> Option<()> {
     Some(())
 }
 
-pub fn surface_case(case: &mut Case, answer: &mut Answer) -> Option<()> {
+pub(crate) fn surface_case(case: &mut Case, answer: &mut Answer) -> Option<()> {
     let mut points = [0.0f32; 110600];
     let mut tangents = [0.0f32; 12300];
     let mut widths = [0.0f32; 4100];

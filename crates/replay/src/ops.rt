@@ -92,7 +92,7 @@ impl fmt::Display for UpperOp {
 
 impl UpperOp {
     // Works the operation on the case. There is no answer where there is no room for the case.
-    pub fn work(self, case: &mut Case, answer: &mut Answer) -> Option<()> {
+    pub(crate) fn work(self, case: &mut Case, answer: &mut Answer) -> Option<()> {
         match self {
             UpperOp::NoArea => mesh_ops::no_area_case(case, answer),
             UpperOp::Patch => grid_ops::patch_case(case, answer),
@@ -158,7 +158,7 @@ impl fmt::Display for Op {
 
 impl Op {
     // Does the operation answer 0 first where Rust panics?
-    pub fn may_panic(self) -> bool {
+    pub(crate) fn may_panic(self) -> bool {
         match self {
             Op::Rounding(op) => op.may_panic(),
             _ => false,
@@ -167,7 +167,7 @@ impl Op {
 
     // The words of the answer to a case, put to the start of `made`. There is none to a case that has no words, or
     // not as many as the operation takes, or that there is no room for.
-    pub fn answer<'m>(self, given: &[u32], made: &'m mut [u32]) -> Option<&'m [u32]> {
+    pub(crate) fn answer<'m>(self, given: &[u32], made: &'m mut [u32]) -> Option<&'m [u32]> {
         if given.is_empty() {
             return None;
         }

@@ -13,7 +13,7 @@ fn put_outline(answer: &mut Answer, o: Outline) {
     answer.test(o.turned);
 }
 
-pub fn ring_case(case: &mut Case, answer: &mut Answer) -> Option<()> {
+pub(crate) fn ring_case(case: &mut Case, answer: &mut Answer) -> Option<()> {
     let mut segments = [0u32; 520];
     let mut points = [0.0f32; 12300];
     let mut line = [BLANK; 12300];

@@ -3,13 +3,13 @@ use shape::refusal::Refusal;
 use stored::answer::Answer;
 
 // A refusal by its number in document 01's table, and the place.
-pub fn put_refusal(answer: &mut Answer, r: Refusal) {
+pub(crate) fn put_refusal(answer: &mut Answer, r: Refusal) {
     answer.word(r.number());
     answer.number(r.place());
 }
 
 // 0 and how many there are, or a refusal.
-pub fn put_count(answer: &mut Answer, count: Result<usize, Refusal>) {
+pub(crate) fn put_count(answer: &mut Answer, count: Result<usize, Refusal>) {
     match count {
         Ok(n) => {
             answer.word(0);

@@ -1,7 +1,7 @@
 // The verdict on a mesh.
 use crate::lists::MeshMemory;
 use crate::refused::put_refusal;
-use shape::validate::{MeshError, validate};
+use shape::validate::MeshError;
 use stored::answer::Answer;
 use stored::lent::Case;
 
@@ -24,10 +24,10 @@ fn put_verdict(answer: &mut Answer, verdict: Result<(), MeshError>) {
     }
 }
 
-pub fn validate_case(case: &mut Case, answer: &mut Answer) -> Option<()> {
+pub(crate) fn validate_case(case: &mut Case, answer: &mut Answer) -> Option<()> {
     let mut memory = MeshMemory::new();
     let mesh = memory.mesh(case)?;
-    match validate(mesh) {
+    match mesh.validate() {
         Ok(verdict) => put_verdict(answer, verdict),
         Err(r) => put_refusal(answer, r),
     }

@@ -32,7 +32,6 @@ use shape::junction::mesh;
 use shape::junction_areas::Boundary;
 use shape::lists::Mesh;
 use shape::mesh::{Lanes, surface_mesh};
-use shape::validate::validate;
 use shape::{elevation, junction_areas};
 use surface::file::{read, write};
 use surface::report::report;
@@ -366,7 +365,7 @@ pub extern "C" fn rs_validate(
         indices,
         spans,
     };
-    let a = validate(mesh);
+    let a = mesh.validate();
     tell_verdict(a, place, index, vertex_count)
 }
 

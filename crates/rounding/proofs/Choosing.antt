@@ -1,16 +1,21 @@
 -- The smaller and the larger of two floats, a float between two bounds, its size, and whether it is finite: what each branch of the code gives. Assumes nothing.
-use Rattle.std.proofs.Common.{◌≡◌, ℕ, zero, suc, ◌+◌, ◌-◌, ◌*◌, ◌/◌, ◌%◌, ◌<◌, Bool, true, false, cond, not, T, eqb, ltb, leb, sym, refl, ap, ◌∙◌, subst, ap₂, le_trans, le_of_eq, mod-lt, mod-eq_of_lt, zero-lt-suc, mul-pos, nltb→le, pow_pos}
+use Rattle.std.proofs.Common.{◌≡◌, ℕ, zero, suc, ◌+◌, ◌-◌, ◌/◌, ◌%◌, ◌<◌, Bool, true, false, cond, T, eqb, leb, sym, refl, ap, ◌∙◌, subst, ap₂, mod-lt, mod-eq_of_lt}
 use lib.Arith.{lt→nleb}
 use lib.Bits.{bit_and}
-use lib.Ieee.{Float, nan, inf, fin, Format, prec, low, odd, hid, ones, top, of_fields, of_bits, to_bits, fits, is_nan, nan_bits, lt, le, ne}
+use lib.Ieee.{Float, nan, inf, fin, Format, prec, low, odd, hid, ones, top, of_fields, of_bits, to_bits, fits, is_nan, lt, le, ne}
 use lib.Dec.{not_T}
-use lib.Ieee.Bits.{is_true, is_false, of_bits-to_bits, nan_bits_is, nan_bits_above}
+use lib.Ieee.Bits.{is_true, is_false, of_bits-to_bits}
 use lib.Ieee.Scale.{finite}
-use Rattle.rounding.specs.Extremes.{first, ge, min_of, max_of, clamp_of, abs_of}
-use Rattle.rounding.proofs.Laws.Order.{lt→not_le, le_of_not_lt, not_nan_num, le_num_left, le_num_right, T_of, not-T-of, num_of_same, nan_of_differs}
+use Rattle.rounding.specs.Extremes.{first, ge, max_of, clamp_of, abs_of}
+use Rattle.rounding.proofs.Laws.Order.{lt→not_le, le_of_not_lt, lt_num_left, lt_num_right, not_nan_num, le_num_left, le_num_right, T_of, not-T-of, num_of_same, nan_of_differs}
 use Rattle.rounding.specs.Numbers.{IsNum}
-use Rattle.rounding.proofs.Fields.{of_bits_is, low_part, no_nan}
-use Rattle.rounding.proofs.Words.{plain_word, masked}
+use Rattle.rounding.proofs.Fields.{of_bits_is, low_part}
+use Rattle.std.specs.Prelude.{Option, not}
+use Rattle.std.specs.declared.cmp.Ordering.{Ordering}
+use Rattle.std.specs.Ordering.{partial_lt}
+use Rattle.rounding.specs.Binary.{ComparedAs}
+use Rattle.rounding.proofs.Ordered.{lt_test, ne_test}
+use Rattle.rounding.proofs.Words.{masked, top_pos}
 
 -- ---- the one of two that comes first
 
@@ -32,20 +37,9 @@ module _ (rel : Float → Float → Bool) (x y : Float) where
   unfolding first
   takes_left p q e = rw (num_is x p, num_is y q, e)
 
-  pub passes_nan : ne y y ≡ true → x ≡ first rel x y
-  passes_nan e = subst (λ (z : Float). x ≡ first rel x z) (sym (nan_of_differs y e)) (beside_nan rel x)
-
-  pub takes_right : rel x y ≡ false → ne y y ≡ false → y ≡ first rel x y
-  unfolding first
-  takes_right e h = rw (num_is y (num_of_same y h), e) (both (is_nan x) y)
-
   pub second : IsNum y → rel x y ≡ false → y ≡ first rel x y
   unfolding first
   second n e = rw (num_is y n, e) (both (is_nan x) y)
-
-pub min_left : (x y : Float) → le x y ≡ true → x ≡ min_of x y
-unfolding min_of
-min_left x y e = takes_left le x y (le_num_left x y (T_of e)) (le_num_right x y (T_of e)) e
 
 pub max_left : (x y : Float) → le y x ≡ true → x ≡ max_of x y
 unfolding max_of
@@ -56,20 +50,34 @@ max_left x y e = takes_left ge x y (le_num_right y x (T_of e)) (le_num_left y x 
 pub lt_not_le : (x y : Float) → lt x y ≡ true → le y x ≡ false
 lt_not_le x y e = is_false (le y x) (not_T (le y x) (lt→not_le x y (T_of e)))
 
-pub not_lt_le : (x y : Float) → ne x x ≡ false → lt x y ≡ false → IsNum y → le y x ≡ true
-not_lt_le x y h e q = is_true (le y x) (le_of_not_lt x y (num_of_same x h) q e)
-
-pub not_lt_ge : (x y : Float) → ne x x ≡ false → lt y x ≡ false → IsNum y → le x y ≡ true
-not_lt_ge x y h e q = is_true (le x y) (le_of_not_lt y x q (num_of_same x h) e)
-
 pub first_kept : (rel : Float → Float → Bool) (x y : Float) → ne x x ≡ false → (IsNum y → rel x y ≡ true) → x ≡ first rel x y
 first_kept rel x nan h e = beside_nan rel x
 first_kept rel x (inf s) h e = takes_left rel x (inf s) (num_of_same x h) tt (e tt)
 first_kept rel x (fin s m d) h e = takes_left rel x (fin s m d) (num_of_same x h) tt (e tt)
 
-pub after_nan : (rel : Float → Float → Bool) (x y : Float) → ne x x ≡ true → y ≡ first rel x y
+after_nan : (rel : Float → Float → Bool) (x y : Float) → ne x x ≡ true → y ≡ first rel x y
 unfolding first
 after_nan rel x y e = subst (λ (z : Float). y ≡ first rel z y) (sym (nan_of_differs x e)) refl
+
+module _ {A : Type 0} {float : A → Float} {same : A → A → Bool} {cmp : A → A → Option Ordering} (o : ComparedAs float same cmp) (x y : A) where
+  pub after : {c : Bool} (rel : Float → Float → Bool) → c ≡ not (same x x) → c ≡ true → float y ≡ first rel (float x) (float y)
+  after rel e h = after_nan rel (float x) (float y) (ne_test o x x e h)
+
+  pub smaller : {b : Bool} → b ≡ partial_lt cmp y x → b ≡ true → float y ≡ first le (float x) (float y)
+  smaller e h = let t = lt_test o y x e h in second le (float x) (float y) (lt_num_left (float y) (float x) (T_of t)) (lt_not_le (float y) (float x) t)
+
+  pub larger : {b : Bool} → b ≡ partial_lt cmp x y → b ≡ true → float y ≡ first ge (float x) (float y)
+  larger e h = let t = lt_test o x y e h in second ge (float x) (float y) (lt_num_right (float x) (float y) (T_of t)) (lt_not_le (float x) (float y) t)
+
+  pub not_smaller : {b c : Bool} → b ≡ partial_lt cmp y x → b ≡ false → c ≡ not (same x x) → c ≡ false → float x ≡ first le (float x) (float y)
+  not_smaller e h d k =
+      let n = ne_test o x x d k in
+      first_kept le (float x) (float y) n (λ q. is_true (le (float x) (float y)) (le_of_not_lt (float y) (float x) q (num_of_same (float x) n) (lt_test o y x e h)))
+
+  pub not_larger : {b c : Bool} → b ≡ partial_lt cmp x y → b ≡ false → c ≡ not (same x x) → c ≡ false → float x ≡ first ge (float x) (float y)
+  not_larger e h d k =
+      let n = ne_test o x x d k in
+      first_kept ge (float x) (float y) n (λ q. is_true (le (float y) (float x)) (le_of_not_lt (float x) (float y) (num_of_same (float x) n) q (lt_test o x y e h)))
 
 -- ---- between two bounds
 
@@ -89,6 +97,7 @@ unraised x lo y e i = rw e i
 
 -- ---- finite
 
+-- Under the upper infinity a number is finite where it is above the lower one.
 pub under_infinity : (x : Float) → lt x (inf false) ≡ true → lt (inf true) x ≡ finite x
 unfolding lt
 under_infinity nan e = absurd (T_of e)
@@ -123,9 +132,6 @@ fields_size f s (suc x) t = go (eqb (suc x) (ones f)) (eqb t 0)
     go true false = refl
     go false b = odd_size (prec f) s (hid f + t) x (low f)
 
-top_pos : (f : Format) → 0 < top f
-top_pos f = mul-pos (pow_pos (prec f - 1)) (zero-lt-suc (ones f))
-
 -- the pattern without its sign
 pub unsigned_word : (f : Format) (x : Float) → T (fits f x) → of_bits f (bit_and (to_bits f x) (top f - 1)) ≡ abs_of x
 unsigned_word f x t =
@@ -138,10 +144,3 @@ unsigned_word f x t =
     ∙ ap₂ (λ (y z : ℕ). of_fields f false (y / hid f) z) i (low_part f b)
     ∙ fields_size f (leb (top f) b) (b % top f / hid f) (b % hid f)
     ∙ ap abs_of (sym (of_bits_is f b) ∙ of_bits-to_bits f x t)
-
-pub unsigned_plain : (f : Format) (x : Float) → T (fits f x) → ne x x ≡ false → T (not (nan_bits f (bit_and (to_bits f x) (top f - 1))))
-unsigned_plain f x t e =
-    let b = to_bits f x in
-    let m : T (not (ltb (ones f * hid f) (b % top f))) = subst (λ (y : Bool). T (not y)) (ap is_nan (sym (of_bits-to_bits f x t)) ∙ sym (nan_bits_is f b) ∙ nan_bits_above f b) (no_nan x e) in
-    subst (λ (y : ℕ). T (not (nan_bits f y))) (sym (masked f x))
-    (plain_word f (b % top f) (le_trans (le_of_eq (mod-eq_of_lt (mod-lt b (top_pos f)))) (nltb→le (ones f * hid f) (b % top f) m)))

@@ -1,26 +1,14 @@
 -- The whole root by its final test, and the root of a number of 108 digits from that of its upper half. No law here speaks of how good a guess is.
 -- Assumes nothing.
-use Rattle.std.proofs.Common.{◌≡◌, ℕ, zero, suc, ◌+◌, ◌-◌, ◌*◌, ◌/◌, ◌%◌, ◌^◌, ◌<◌, ◌≤◌, ap, mul-le-mul_right, mod-lt, mul-le-mul, div-add-mod', arith}
+use Rattle.std.proofs.Common.{◌≡◌, ℕ, suc, ◌+◌, ◌-◌, ◌*◌, ◌/◌, ◌%◌, ◌^◌, ◌<◌, ◌≤◌, ap, mul-le-mul_right, mod-lt, mul-le-mul, div-add-mod', arith}
 use native.Mathlib.Nat.{div-le_of_le-mul}
 use Rattle.rounding.specs.Steps.{Root}
 use Rattle.rounding.proofs.Laws.Isqrt.{sq_lt}
 
--- ---- the guess's numbers fit
-
-pub curve : (t : ℕ) → t < 2 ^ 16 → t * (33967 - t * 9997 / 0x1_0000) ≤ 2 ^ 16 * 33967
-curve t h = let a : t ≤ 2 ^ 16 = omega arith in let b : 33967 - t * 9997 / 0x1_0000 ≤ 33967 = omega arith in mul-le-mul a b
-
--- ---- a trial r is too high, or not
+-- ---- a trial r fits
 
 pub square_fits : (r : ℕ) → r < 2 ^ 28 → r * r ≤ 2 ^ 56
 square_fits r h = let a : r ≤ 2 ^ 28 = omega arith in mul-le-mul a a
-
-pub tested : (r n : ℕ) → r * r ≤ n → n < (r + 1) * (r + 1) → Root r n
-tested r n l h = record { under = l; over = omega arith }
-
-pub high_some : (r n : ℕ) → n < r * r → 0 < r
-high_some zero n h = omega arith
-high_some (suc r) n h = omega arith
 
 pub under_small : (r n : ℕ) → r * r ≤ n → n < 2 ^ 54 → r < 2 ^ 27
 under_small r n h l = sq_lt r (2 ^ 27) (omega arith)
@@ -64,10 +52,7 @@ lower h s u =
     let b : x / s ≤ 2 ^ 27 = div-le_of_le-mul s a in
     record { sum = div-add-mod' x s; rest = mod-lt x p; small = b; square = mul-le-mul_right (x / s) b }
 
--- the lower half is q, or one less
-pub takes : (h s q m : ℕ) → Upper h s → Lower h s q m → q * q ≤ m * 2 ^ 28 → Root (s * 2 ^ 27 + q) (h * 2 ^ 54)
-takes h s q m u l t = record { under = omega arith; over = omega arith }
-
+-- the lower half is one less than q
 pub skips : (h s q m : ℕ) → Upper h s → Lower h s q m → m * 2 ^ 28 < q * q → Root (s * 2 ^ 27 + q - 1) (h * 2 ^ 54)
 skips h s q m u l t =
     let k = s * 2 ^ 27 + q - 1 in
@@ -81,8 +66,3 @@ pub narrow_root : (y n R : ℕ) → n ≡ 24 → Root R (y * 2 ^ 28) → Root (R
 narrow_root y n R e r =
     let i : y * 2 ^ 28 ≡ 16 * (y * 2 ^ 24) = omega arith in
     rw e (quarter R (y * 2 ^ 24) (rw i at r))
-
-pub wide_root : (y n R : ℕ) → n ≡ 53 → y ≡ 2 * (y / 2) → Root R (y / 2 * 2 ^ 54) → Root R (y * 2 ^ n)
-wide_root y n R e d r =
-    let i : y / 2 * 2 ^ 54 ≡ y * 2 ^ 53 = omega arith in
-    rw e (rw i at r)

@@ -14,7 +14,6 @@ pub mod Words
 pub mod Ordered
 pub mod Choosing
 pub mod Special
-pub mod Counting
 pub mod Widening
 pub mod Nearby
 pub mod Laws

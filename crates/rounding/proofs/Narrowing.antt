@@ -39,11 +39,11 @@ signed_thin x s r t l e h =
     ∙ of_bits-to_bits binary32 (round binary32 s (size_of 53 b) (2 ^ low binary64)) (round-fits binary32 s (size_of 53 b) (2 ^ low binary64))
     ∙ sym (ap (narrow_of binary32) (finite_odd binary64 x s t l e) ∙ narrow_odd binary32 (prec binary64) s (digs binary64 b) (expo binary64 b) (low binary64))
 
--- bits up to the infinity's are no NaN's
-pub no_nan_most : (f : Format) (s : Bool) (r : ℕ) → r ≤ ones f * hid f → r < top f → T (not (nan_bits f (cond s (top f) 0 + r)))
-no_nan_most f s r h l =
-    subst (λ (y : Bool). T (not y)) (sym (nan_bits_above f (cond s (top f) 0 + r)))
-    (le→nltb (ones f * hid f) ((cond s (top f) 0 + r) % top f) (le_trans (le_of_eq (go s ∙ mod-eq_of_lt l)) h))
+-- bits up to the infinity's are no NaN's, with the sign p before them
+pub no_nan_most : (f : Format) (s : Bool) (p r : ℕ) → p ≡ cond s (top f) 0 → r ≤ ones f * hid f → r < top f → T (not (nan_bits f (p + r)))
+no_nan_most f s p r e h l =
+    subst (λ (y : Bool). T (not y)) (sym (nan_bits_above f (p + r)))
+    (le→nltb (ones f * hid f) ((p + r) % top f) (le_trans (le_of_eq (ap (λ (y : ℕ). (y + r) % top f) e ∙ go s ∙ mod-eq_of_lt l)) h))
   where
     go : (s : Bool) → (cond s (top f) 0 + r) % top f ≡ r % top f
     go true = add-mod_left (top f) r

@@ -5,8 +5,9 @@ use lib.Ieee.{Format, binary32, binary64, prec, emax, low}
 use Rattle.rounding.specs.Root.{root_of}
 use Rattle.rounding.specs.Binary.{LaidOut}
 use Rattle.rounding.specs.Steps.{Shaped, Root, Rooted, Radicand}
-use Rattle.rounding.proofs.RootLaw.{law, root_le}
+use Rattle.rounding.proofs.RootLaw.{law}
 use Rattle.rounding.proofs.Pattern.{twice}
+use Rattle.rounding.proofs.Fields.{lead_is}
 
 -- ---- the two formats' numbers
 
@@ -23,28 +24,21 @@ bounds_of binary64 = record { two = lit≤ tt; short = lit≤ tt; wide = lit< tt
 pub bounds : (p e : ℕ) → Shaped p e → Bounds p e
 bounds p e s = rw (s.digits, s.largest) at (bounds_of s.format)
 
--- the numbers p and e that the code has from the format's type
--- p and e are the format's numbers
+-- the leading digit's weight, as the code has it
+pub lead : (p e : ℕ) → Bounds p e → (1 * 2 ^ (p - 1)) % 2 ^ 64 ≡ 2 ^ (p - 1)
+lead p e b = lead_is p b.short b.two
+
+-- p and e are the format's numbers, as the code has them from the format's type
 pub record Sized (f : Format) (p e : ℕ) : Type 0 where
   pub digits : prec f ≡ p
   pub largest : emax f ≡ e
   pub within : Bounds p e
 
-module _ {f : Format} {P E s i : ℕ} (o : LaidOut f P E s i) {p e : ℕ} (u : p ≡ P) (w : e ≡ E) where
-  pub prec_is : prec f ≡ p
-  prec_is = sym (u ∙ o.digits_is)
-
-  pub emax_is : emax f ≡ e
-  emax_is = sym (w ∙ o.largest_is)
-
-  pub shaped : Shaped p e
-  shaped = record { format = f; digits = prec_is; largest = emax_is }
-
-  pub known : Bounds p e
-  known = bounds p e shaped
-
-  pub sized : Sized f p e
-  sized = record { digits = prec_is; largest = emax_is; within = known }
+pub sized : {f : Format} {P E s i : ℕ} → LaidOut f P E s i → {p e : ℕ} → p ≡ P → e ≡ E → Sized f p e
+sized {f} o {p} {e} u w =
+    let d : prec f ≡ p = sym (u ∙ o.digits_is) in
+    let l : emax f ≡ e = sym (w ∙ o.largest_is) in
+    record { digits = d; largest = l; within = bounds p e (record { format = f; digits = d; largest = l }) }
 
 width_of : (f : Format) → (prec f ≡ 24 → ⊥) → prec f ≡ 53
 width_of binary32 n = absurd (n refl)
@@ -188,6 +182,3 @@ module _ (p e m k : ℕ) (b : Bounds p e) (pos : 0 < m) (lt : m < 2 ^ p) (kl : k
       (rw u rad_hi)
       (rw (u, ← rad_is) root)
       (rw w expo_lt)))
-
-  pub root_small : (R : ℕ) → Root R (rad p e m k * 2 ^ p) → R + 1 < 2 * 2 ^ p
-  root_small R root = root_le (2 * half p e m k) (2 ^ p) R rad_hi (rw (← rad_is) root)

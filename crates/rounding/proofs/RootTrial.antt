@@ -14,12 +14,6 @@ use Rattle.rounding.proofs.Fields.{sqrt_mid}
 
 -- ---- the trial's numbers fit at single width
 
-pub arc_fits : (x d : ℕ) → x < 0x800 → d < 0x1_0000 → x * d ≤ 0x7ff * 0xffff
-arc_fits x d h k = let a : x ≤ 0x7ff = omega arith in let b : d ≤ 0xffff = omega arith in mul-le-mul a b
-
-pub slope_fits : (c d : ℕ) → c ≤ 0x100_4000 → d < 0x1_0000 → c * d ≤ 0x100_4000 * 0xffff
-slope_fits c d h k = let b : d ≤ 0xffff = omega arith in mul-le-mul h b
-
 pub square_fits : (r : ℕ) → r < 2 ^ 26 → r * r ≤ 2 ^ 52
 square_fits r h = let a : r ≤ 2 ^ 26 = omega arith in mul-le-mul a a
 

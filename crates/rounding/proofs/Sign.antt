@@ -1,10 +1,10 @@
 -- A float to a whole number by its bits, the sign among them, with the format as a parameter. Assumes nothing.
-use Rattle.std.proofs.Common.{◌≡◌, ℕ, zero, suc, ◌+◌, ◌-◌, ◌*◌, ◌/◌, ◌%◌, ◌^◌, ◌<◌, Bool, true, false, cond, not, T, ltb, leb, ◌≢◌, sym, refl, ap, ◌∙◌, subst, ap₂, le_trans, le_of_eq, le_of_lt, mod-eq_of_lt, div-lt_iff_lt-mul, div-add-mod', zero-add, mul-div_cancel, arith, nltb→le, pow_pos}
-use native.Mathlib.Nat.{mul-mod_left, add-mod_left}
-use lib.Arith.{le→nltb, lt_of_le-ne}
+use Rattle.std.proofs.Common.{◌≡◌, ℕ, zero, suc, ◌+◌, ◌-◌, ◌*◌, ◌/◌, ◌%◌, ◌^◌, ◌<◌, Bool, true, false, cond, not, T, ltb, leb, ◌≢◌, sym, refl, ap, ◌∙◌, subst, ap₂, div-lt_iff_lt-mul, div-add-mod', mul-div_cancel, arith, nltb→le, pow_pos}
+use native.Mathlib.Nat.{mul-mod_left}
+use lib.Arith.{lt_of_le-ne}
 use lib.Bits.{bit_and}
 use lib.Count.{count_trailing_zeros}
-use lib.Ieee.{Float, nan, inf, Format, binary32, binary64, prec, low, up, down, minus, odd, hid, ones, top, of_fields, of_bits, to_bits, fits, is_nan, nan_bits, ne}
+use lib.Ieee.{Float, nan, inf, Format, binary32, binary64, prec, low, up, down, minus, odd, hid, ones, top, of_fields, of_bits, to_bits, fits, is_nan, ne}
 use lib.Ieee.Digits.{odd_val}
 use lib.Ieee.Fits.{down_pos, round-fits}
 use lib.Ieee.Bits.{of_bits-to_bits, nan_bits_is, nan_bits_above}
@@ -13,8 +13,8 @@ use Rattle.rounding.specs.Steps.{Wholes, size_of}
 use Rattle.rounding.specs.declared.whole.Way.{Way}
 use Rattle.rounding.specs.Whole.{ways, whole_by, whole_of}
 use Rattle.rounding.proofs.Laws.Whole.{whole_by_same}
-use Rattle.rounding.proofs.Fields.{of_bits_is, field_some, low_part, under_top}
-use Rattle.rounding.proofs.Words.{sign_bit}
+use Rattle.rounding.proofs.Fields.{of_bits_is, field_some, low_part, no_nan}
+use Rattle.rounding.proofs.Words.{sign_bit, masked}
 use Rattle.rounding.proofs.Cut.{expo, digs}
 
 pub nan_whole : (f : Format) (w : Bool → Way) (x : Float) → ne x x ≡ true → x ≡ whole_of f w x
@@ -40,11 +40,6 @@ is_inf f x s t e k =
     ∙ inf_fields f (leb (top f) b)
     ∙ ap inf k
 
-pub inf_whole : (f : Format) (w : Bool → Way) (x : Float) → T (fits f x) → sized f x ≡ ones f * hid f → x ≡ whole_of f w x
-unfolding whole_of
-inf_whole f w x t e =
-    subst (λ (y : Float). y ≡ whole_of f w y) (sym (is_inf f x (leb (top f) (to_bits f x)) t e refl)) refl
-
 -- ---- a finite float
 
 whole_odd : (f : Format) (w : Bool → Way) (d : ℕ) (s : Bool) (q k : ℕ) → whole_of f w (odd d s q k (low f)) ≡ whole_by f s (w s) (q * 2 ^ k) (2 ^ low f)
@@ -60,6 +55,10 @@ sized_lt f x t n z =
     let b = to_bits f x in
     let m : T (not (ltb (ones f * hid f) (b % top f))) = subst (λ (y : Bool). T (not y)) (ap is_nan (sym (of_bits-to_bits f x t)) ∙ sym (nan_bits_is f b) ∙ nan_bits_above f b) n in
     lt_of_le-ne (nltb→le (ones f * hid f) (b % top f) m) z
+
+-- neither a NaN nor an infinity, by its bits without the sign
+pub within : (f : Format) (x : Float) → T (fits f x) → ne x x ≡ false → bit_and (to_bits f x) (top f - 1) ≢ ones f * hid f → sized f x < ones f * hid f
+within f x t h n = sized_lt f x t (no_nan x h) (λ e. n (masked f x ∙ e))
 
 zero_field : (f : Format) (s : Bool) (t x : ℕ) → x ≡ 0 → of_fields f s x t ≡ odd (prec f) s t 0 (low f)
 unfolding of_fields
@@ -128,16 +127,3 @@ module _ (f : Format) (x : Float) (t : T (fits f x)) where
           let j = e ∙ ap (λ (y : ℕ). cond (leb 1 y) minus plus) i ∙ chosen f s in
           ap (λ (y : ℕ). of_bits f (y + r)) i
           ∙ signed f (ways plus minus) x s r t l k (subst (λ (y : Way). Wholes f s y (sized f x) r) j (h s))
-
--- the result is no NaN's
-pub no_nan_bits : (f : Format) (s : Bool) (r : ℕ) → r < ones f * hid f → T (not (nan_bits f (cond s (top f) 0 + r)))
-no_nan_bits f s r h =
-    subst (λ (y : Bool). T (not y)) (sym (nan_bits_above f (cond s (top f) 0 + r)))
-    (le→nltb (ones f * hid f) ((cond s (top f) 0 + r) % top f) (le_trans (le_of_eq (go s ∙ mod-eq_of_lt (under_top f r h))) (le_of_lt h)))
-  where
-    go : (s : Bool) → (cond s (top f) 0 + r) % top f ≡ r % top f
-    go true = add-mod_left (top f) r
-    go false = ap (λ (y : ℕ). y % top f) (zero-add r)
-
-pub no_nan_signed : (f : Format) (x : Float) (r : ℕ) → T (fits f x) → r < ones f * hid f → T (not (nan_bits f (bit_and (to_bits f x) (top f) + r)))
-no_nan_signed f x r t h = subst (λ (y : ℕ). T (not (nan_bits f (y + r)))) (sym (sign_bit f x t)) (no_nan_bits f (leb (top f) (to_bits f x)) r h)

@@ -1,23 +1,18 @@
 -- The numbers that are told from the bits alone: zero, what is below zero, the infinities, and what is no number. Assumes nothing.
-use Rattle.std.proofs.Common.{◌≡◌, ℕ, zero, suc, ◌+◌, ◌-◌, ◌*◌, ◌%◌, ◌^◌, ◌<◌, ◌≤◌, Bool, true, false, cond, not, T, ltb, leb, ◌⊎◌, inl, inr, sym, refl, ap, ◌∙◌, subst, mod-lt, mod-eq_of_lt, zero-le, mul-pos, zero-lt-suc, arith, lit<, lit≤, ltb→lt, nltb→le, pow_pos}
+use Rattle.std.proofs.Common.{◌≡◌, ℕ, ◌+◌, ◌-◌, ◌*◌, ◌%◌, ◌^◌, ◌<◌, ◌≤◌, Bool, true, false, cond, not, T, leb, ◌⊎◌, inl, inr, sym, refl, ap, ◌∙◌, subst, mod-lt, mod-eq_of_lt, zero-le, arith, lit<, lit≤}
 use native.Mathlib.Nat.{eq-or-lt_of_le, add-mod_left, mod_self}
 use lib.Bits.{bit_and, and_le_r}
-use lib.Ieee.{Float, nan, inf, fin, Format, binary32, binary64, prec, odd, hid, ones, top, of_bits, to_bits, fits, is_nan}
+use lib.Ieee.{Float, nan, inf, fin, Format, binary32, binary64, hid, ones, top, of_bits, to_bits, fits, is_nan}
 use lib.Ieee.Bits.{of_bits-to_bits, to_bits-lt}
-use lib.Ieee.Scale.{finite}
-use Rattle.std.specs.Float.{float_is_finite}
 use Rattle.rounding.specs.declared.whole.Way.{Way}
 use Rattle.rounding.specs.Extremes.{abs_of}
 use Rattle.rounding.specs.Root.{sqrt_of}
 use Rattle.rounding.specs.Steps.{Rooted, Wholes}
 use Rattle.rounding.specs.Whole.{ways, whole_of}
 use Rattle.rounding.proofs.Fields.{neg_root, zero_root, inf_root}
-use Rattle.rounding.proofs.Words.{nan_word, masked}
-use Rattle.rounding.proofs.Sign.{sized, is_inf, finite_odd, signed_by}
+use Rattle.rounding.proofs.Words.{nan_word, masked, top_pos}
+use Rattle.rounding.proofs.Sign.{sized, is_inf, signed_by}
 use Rattle.rounding.proofs.Choosing.{unsigned_word}
-
-top_pos : (f : Format) → 0 < top f
-top_pos f = mul-pos (pow_pos (prec f - 1)) (zero-lt-suc (ones f))
 
 -- of bits within the width nothing is dropped
 pub kept : (f : Format) (r : ℕ) → r < 2 * top f → of_bits f (r % (2 * top f)) ≡ of_bits f r
@@ -65,11 +60,6 @@ whole_inf : (f : Format) (w : Bool → Way) (s : Bool) → inf s ≡ whole_of f 
 unfolding whole_of
 whole_inf f w s = refl
 
-odd_finite : (d : ℕ) (s : Bool) (q k l : ℕ) → finite (odd d s q k l) ≡ true
-unfolding odd
-odd_finite d s zero k l = refl
-odd_finite d s (suc q) k l = refl
-
 module _ (f : Format) (x : Float) (t : fits f x ≡ true) where
   held : T (fits f x)
   held = subst (λ (y : Bool). T y) (sym t) tt
@@ -87,13 +77,6 @@ module _ (f : Format) (x : Float) (t : fits f x ≡ true) where
         | inl e ↦ subst (λ (y : Float). y ≡ whole_of f w y) (sym e) (whole_nan f w)
         | inr e ↦ subst (λ (y : Float). y ≡ whole_of f w y) (sym e.1) (whole_inf f w e.0)
       ]
-
-  pub finite_is : ltb (sized f x) (ones f * hid f) ≡ finite x
-  finite_is = go (ltb (sized f x) (ones f * hid f)) (ltb→lt (sized f x) (ones f * hid f)) (nltb→le (sized f x) (ones f * hid f))
-    where
-      go : (b : Bool) → (T b → sized f x < ones f * hid f) → (T (not b) → ones f * hid f ≤ sized f x) → b ≡ finite x
-      go true l h = let s = leb (top f) (to_bits f x) in sym (ap finite (finite_odd f x s held (l tt) refl) ∙ odd_finite _ _ _ _ _)
-      go false l h = elim (past (h tt)) [ inl e ↦ ap finite (sym e) | inr e ↦ ap finite (sym e.1) ]
 
   pub abs_is : of_bits f (sized f x % (2 * top f)) ≡ abs_of x
   abs_is = let l = sized_top f x in kept f (sized f x) (omega arith) ∙ ap (of_bits f) (sym (masked f x)) ∙ unsigned_word f x held
@@ -142,10 +125,3 @@ module _ (f : Format) (x : Float) (t : fits f x ≡ true) where
       let l = h.finite in
       let k = inf_under f in
       kept f r (omega arith) ∙ h.value ∙ ap (sqrt_of f) (of_bits-to_bits f x held)
-
--- the library's test is the standard's
-pub finite_same : (x : Float) → float_is_finite x ≡ finite x
-unfolding float_is_finite
-finite_same nan = refl
-finite_same (inf s) = refl
-finite_same (fin s m e) = refl

@@ -1,15 +1,12 @@
 -- Words and the floats that they stand for, with the format as a parameter. Assumes nothing.
-use Rattle.std.proofs.Common.{◌≡◌, ℕ, zero, suc, ◌+◌, ◌-◌, ◌*◌, ◌/◌, ◌%◌, ◌^◌, ◌<◌, ◌≤◌, Bool, true, false, cond, not, T, ltb, leb, pos, sym, refl, ap, ◌∙◌, subst, mod-lt, div-lt_iff_lt-mul, div-add-mod', arith, lit<, lit≤, ltb→lt, lt→ltb, nltb→le, shl_exact, le-leb}
+use Rattle.std.proofs.Common.{◌≡◌, ℕ, zero, suc, ◌+◌, ◌-◌, ◌*◌, ◌/◌, ◌%◌, ◌^◌, ◌<◌, ◌≤◌, Bool, true, false, cond, T, ltb, leb, pos, sym, refl, ap, ◌∙◌, subst, mod-lt, div-lt_iff_lt-mul, div-add-mod', arith, lit<, lit≤, ltb→lt, lt→ltb, nltb→le, shl_exact, le-leb}
 use native.Mathlib.Nat.{div-eq_of_lt}
 use borrow.Author.Tests.{lt-leb}
 use lib.Dec.{not_T}
-use lib.Arith.{le→nltb}
 use lib.Bits.{bit_and, and_mask, and_high}
-use lib.Ieee.{Float, nan, inf, fin, Format, binary32, binary64, hid, ones, top, of_bits, to_bits, fits, is_nan, nan_bits, eq, ne}
+use lib.Ieee.{Float, nan, inf, fin, Format, binary32, binary64, hid, ones, top, of_bits, to_bits, fits, is_nan, eq}
 use lib.Ieee.Bits.{to_bits-lt, nan_bits_is, nan_bits_above}
-use lib.Ieee.Compare.{differs_from_itself}
 use Rattle.rounding.specs.Stored.{stored_of}
-use Rattle.rounding.proofs.Laws.Order.{T_of}
 
 nan_only : (x : Float) → T (is_nan x) → nan ≡ x
 unfolding is_nan
@@ -22,15 +19,6 @@ pub nan_word : (f : Format) (b : ℕ) → ones f * hid f < b % top f → nan ≡
 nan_word f b h =
     nan_only (of_bits f b) (subst (λ (y : Bool). T y) (sym (nan_bits_above f b) ∙ nan_bits_is f b) (lt→ltb (ones f * hid f) (b % top f) h))
 
--- and one up to it is not
-pub plain_word : (f : Format) (b : ℕ) → b % top f ≤ ones f * hid f → T (not (nan_bits f b))
-plain_word f b h = subst (λ (y : Bool). T (not y)) (sym (nan_bits_above f b)) (le→nltb (ones f * hid f) (b % top f) h)
-
--- the one pattern that is written for a NaN
-pub word_of_nan : (f : Format) (x : Float) → ne x x ≡ true → ones f * hid f + hid f / 2 ≡ to_bits f x
-unfolding to_bits
-word_of_nan f x e = subst (λ (y : Float). ones f * hid f + hid f / 2 ≡ to_bits f y) (sym (differs_from_itself x (T_of e))) refl
-
 -- the mask of all bits but the sign leaves the pattern without it
 pub masked : (f : Format) (x : Float) → bit_and (to_bits f x) (top f - 1) ≡ to_bits f x % top f
 masked binary32 x = and_mask (to_bits binary32 x) 31
@@ -41,7 +29,7 @@ masked binary64 x = and_mask (to_bits binary64 x) 63
 sign_low : (f : Format) (b : ℕ) → b / top f ≡ 0 → b % top f ≡ b
 sign_low f b z = let d = div-add-mod' b (top f) in let e = ap (λ (x : ℕ). x * top f) z in omega arith
 
-top_pos : (f : Format) → 0 < top f
+pub top_pos : (f : Format) → 0 < top f
 top_pos binary32 = lit< tt
 top_pos binary64 = lit< tt
 
@@ -85,10 +73,6 @@ inf_signed binary32 true = refl
 inf_signed binary32 false = refl
 inf_signed binary64 true = refl
 inf_signed binary64 false = refl
-
--- with no sign the mask changes nothing
-pub unsigned : (f : Format) (x : Float) → to_bits f x / top f ≡ 0 → bit_and (to_bits f x) (top f - 1) ≡ to_bits f x
-unsigned f x z = masked f x ∙ sign_low f (to_bits f x) z
 
 -- ---- as the index stores a single
 

@@ -66,12 +66,12 @@ fn root_wide(h: u64) -> u64
     if rest < q * q { r - 1 } else { r }
 }
 
-// The whole root of y * 2^n, for the two n that there are.
-fn root_digits(y: u64, n: u64) -> u64
-    requires { Radicand y n }
-    ensures { Root result (y * 2 ^ n) }
+// The whole root of y * 2^n, where n is the number of digits, for the two types that there are.
+fn root_digits<T: Binary>(y: u64) -> u64
+    requires { Radicand y T.DIGITS }
+    ensures { Root result (y * 2 ^ T.DIGITS) }
 {
-    if n == 24 {
+    if T::DIGITS == 24 {
         root(y * 0x1000_0000) / 4
     } else {
         root_wide(y / 2)
@@ -90,7 +90,7 @@ fn root_of<T: Binary>(m: u64, k: u64) -> u64
     let z = (u64::leading_zeros(m) as u64) - (64 - p);
     let d = k + (e - 1) - z;
     let y = (m << z) << (1 + d % 2);
-    let r = root_digits(y, p);
+    let r = root_digits::<T>(y);
     ((d / 2) << (p - 1)) + (r + 1) / 2
 }
 

@@ -142,14 +142,14 @@ impl Root for f64 {
 }
 
 // Writes the roots of `xs` to the start of `out`, as many as both have room for, and answers how many.
-#[tactic(auto, using(crate::proofs::Roots::mapped_none, crate::proofs::Roots::mapped_turn))]
+#[tactic(auto, using(crate::proofs::Roots::start_none, crate::proofs::Roots::start_turn))]
 fn sqrt_all<T: Root>(xs: &[T], out: &mut [T]) -> usize
     ensures value { result ≡ min (length xs.now) (length out.old) }
     ensures out_after { out.new ≡ mapped T.root result xs.now out.old }
 {
     let n = xs.len().min(out.len());
-    for i in 0..n {
-        out[i] = xs[i].root();
+    for (i, y) in out[..n].iter_mut().enumerate() {
+        *y = xs[i].root();
     }
     n
 }

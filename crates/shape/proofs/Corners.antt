@@ -20,6 +20,7 @@ use Rattle.shape.specs.declared.rib.Leg.{Leg}
 use Rattle.shape.specs.declared.rib.Spread.{Spread}
 use Rattle.shape.specs.Strip.{most, tiny, shorter_of, eat_square_of, eat_of, pinches, inner_of, turns_left, spread_of}
 use Rattle.shape.specs.MeshSteps.{Mild}
+use Rattle.shape.proofs.Reaching.{pick}
 
 -- 2^-8 and 2^-4, 7
 abbrev 1/256 : Float
@@ -30,10 +31,6 @@ abbrev 1/16 : Float
 
 abbrev 7f : Float
 7f = single 0x40e0_0000
-
-pick : (b : Bool) (x y : Float) → T b → cond b x y ≡ x
-pick true x y h = refl
-pick false x y h = absurd h
 
 min_first : (x y : Float) → T (le x y) → min_of x y ≡ x
 unfolding min_of first is_nan

@@ -1,25 +1,24 @@
 -- Joining boundary segments: coordinates of a list of points, the segments that are not empty, and one segment more. Assumes nothing.
-use Rattle.std.proofs.Common.{◌≡◌, ℕ, zero, suc, ◌+◌, ◌-◌, ◌*◌, ◌/◌, ◌<◌, ◌≤◌, min, Bool, true, false, ltb, List, [], ◌∷◌, ◌++◌, length, get_or, take, drop, sym, refl, ap, ◌∙◌, add-zero, one-mul, zero-add, add-one, arith, length-append, length-drop, length-take, ltb-false, le-ltb, lt-ltb}
-use Rattle.std.specs.Prelude.{Ok, Err}
+use Rattle.std.proofs.Common.{◌≡◌, ℕ, zero, suc, ◌+◌, ◌-◌, ◌*◌, ◌/◌, ◌<◌, ◌≤◌, min, Bool, true, false, ltb, List, [], ◌∷◌, ◌++◌, length, get_or, take, drop, sym, refl, ap, ◌∙◌, add-zero, one-mul, zero-add, add-one, arith, length-append, length-drop, length-take, ltb-false, le-ltb, lt-ltb, eqb-true, eq-eqb, true≢false}
+use Rattle.std.proofs.lemmas.Option.{none-some, same_Some}
+use Rattle.std.specs.Prelude.{Option, None, Some, is_none, unwrap_or, nat_eq, Ok, Err}
 use native.Mathlib.Decide.{dec_lt}
 use lib.Ieee.{Float, lt, le}
-use lib.Seq.{take-length, get_or-append_seam}
+use lib.Seq.{take-length, get_or-append_seam, sets}
 use Rattle.rounding.specs.Extremes.{max_of}
 use Rattle.rounding.specs.Thresholds.{milli, tenth}
 use Rattle.vector.specs.Single.{◌⊕◌}
 use Rattle.vector.specs.declared.coords.Point.{Point}
-use Rattle.shape.specs.declared.junction_areas.Gap.{Gap}
 use Rattle.shape.specs.declared.junction_areas.RingSoFar.{RingSoFar}
 use Rattle.shape.specs.declared.junction_areas.Joined.{Joined}
 use Rattle.shape.specs.declared.refusal.Refusal.{Refusal}
-use Rattle.shape.specs.declared.refusal.Refusal.TheVariants.{ShortOutput}
 use Rattle.shape.specs.Gather.{gather, any}
 use Rattle.shape.specs.Memory.{Put}
-use Rattle.shape.specs.Refusal.{fine, fault, found, refuse, judge, told, leaves, number_of, place_of}
+use Rattle.shape.specs.Refusal.{fine, found, refuse, judge, told, leaves}
 use Rattle.shape.proofs.Laws.Refusal.{passed, else_passed}
 use Rattle.shape.specs.Lists.{longer, uneven, point_at, start_of, end_of, last_end, run_bad, run_of}
 use Rattle.shape.specs.Outline.{reach_of, place_from, point_from, first_of, final_of, solid_at, solid, solids, segment_of, segment_at, origin, head_of, last_of, is_new, added, extended, turns_first, turns_later, turns_at, gap_at, Line, joined, closing, closed_up, side_at, area_to, reversed_at, reversed, flat, widest, whole_line, dropped_of, ring_of, turned_of, result_of, outline_of, outline_limits, outline_ragged, outline_fault, short_fault, outline_answer, Outlines}
-use Rattle.shape.specs.OutlineSteps.{SoundLists, Holds, Skips, Adds}
+use Rattle.shape.specs.OutlineSteps.{SoundLists, Holds, Skips, Adds, points_of, tip_of}
 use Rattle.shape.specs.OutlineJoins.{Joins}
 use Rattle.shape.proofs.Laws.Gather.{gather_next, gather_fits, gather_even, gather_at}
 use Rattle.shape.proofs.Laws.Lists.{Sound, sound}
@@ -31,9 +30,6 @@ pub flat_length : (ps : List Point) → length (flat ps) ≡ 3 * length ps
 unfolding flat
 flat_length [] = refl
 flat_length (p ∷ ps) = omega (arith, flat_length ps)
-
-pub flat_count : (ps : List Point) → length (flat ps) / 3 ≡ length ps
-flat_count ps = omega (arith, flat_length ps)
 
 pub flat_append : (ps qs : List Point) → flat (ps ++ qs) ≡ flat ps ++ flat qs
 unfolding flat
@@ -53,53 +49,92 @@ three_less a b =
       | no p ↦ le-ltb (suc (suc (suc a))) (suc (suc (suc b))) (omega arith) ∙ sym (le-ltb a b (omega arith))
     ]
 
-pub flat_at : (ps : List Point) (i : ℕ) → point_at (flat ps) i ≡ get_or ps i origin
-unfolding flat point_at origin
-flat_at [] i = rw (le-ltb (3 * i + 2) 0 (omega arith))
-flat_at (p ∷ ps) zero = rw (lt-ltb 2 (suc (suc (suc (length (flat ps))))) (omega arith))
-flat_at (p ∷ ps) (suc i) = rw (three_more i 2, three_more i 1, three_on i, three_less (3 * i + 2) (length (flat ps))) (flat_at ps i)
+-- ---- the points of a list of coordinates
 
-pub flat_take : (n : ℕ) (ps : List Point) → take (3 * n) (flat ps) ≡ flat (take n ps)
-unfolding flat
-flat_take zero ps = refl
-flat_take (suc n) [] = rw (three_on n)
-flat_take (suc n) (p ∷ ps) = rw (three_on n) (ap (λ (l : List Float). p.x ∷ p.y ∷ p.z ∷ l) (flat_take n ps))
+pub points_count : (xs : List Float) → length (points_of xs) ≡ length xs / 3
+unfolding points_of
+points_count [] = refl
+points_count (x ∷ []) = refl
+points_count (x ∷ y ∷ []) = refl
+points_count (x ∷ y ∷ z ∷ xs) = omega (arith, points_count xs)
 
-pub flat_last : (ps : List Point) → point_at (flat ps) (length (flat ps) / 3 - 1) ≡ last_of ps
-flat_last ps = rw (flat_count ps) (flat_at ps (length ps - 1))
+pub points_at : (xs : List Float) (i : ℕ) → point_at xs i ≡ get_or (points_of xs) i origin
+unfolding points_of point_at origin
+points_at [] i = rw (le-ltb (3 * i + 2) 0 (omega arith))
+points_at (x ∷ []) i = rw (le-ltb (3 * i + 2) 1 (omega arith))
+points_at (x ∷ y ∷ []) i = rw (le-ltb (3 * i + 2) 2 (omega arith))
+points_at (x ∷ y ∷ z ∷ xs) zero = rw (lt-ltb 2 (suc (suc (suc (length xs)))) (omega arith))
+points_at (x ∷ y ∷ z ∷ xs) (suc i) = rw (three_more i 2, three_more i 1, three_on i, three_less (3 * i + 2) (length xs)) (points_at xs i)
 
-pub flat_first : (xs : List Float) (ps : List Point) → xs ≡ flat ps → first_of xs ≡ head_of ps
-flat_first xs ps e = rw e (flat_at ps 0)
+pub points_flat : (ps : List Point) → points_of (flat ps) ≡ ps
+unfolding points_of flat
+points_flat [] = refl
+points_flat (p ∷ ps) = ap (λ (l : List Point). p ∷ l) (points_flat ps)
 
-pub flat_final : (xs : List Float) (ps : List Point) → xs ≡ flat ps → final_of xs ≡ last_of ps
-flat_final xs ps e = rw e (flat_last ps)
+pub points_take : (n : ℕ) (xs : List Float) → points_of (take (3 * n) xs) ≡ take n (points_of xs)
+unfolding points_of
+points_take zero xs = refl
+points_take (suc n) [] = rw (three_on n)
+points_take (suc n) (x ∷ []) = rw (three_on n)
+points_take (suc n) (x ∷ y ∷ []) = rw (three_on n)
+points_take (suc n) (x ∷ y ∷ z ∷ xs) = rw (three_on n) (ap (λ (l : List Point). record { x = x; y = y; z = z } ∷ l) (points_take n xs))
+
+pub points_first : (xs : List Float) → first_of xs ≡ head_of (points_of xs)
+points_first xs = points_at xs 0
+
+pub points_final : (xs : List Float) → final_of xs ≡ last_of (points_of xs)
+points_final xs = rw (points_count xs) (points_at xs (length xs / 3 - 1))
 
 -- ---- a point more
 
-pub first_new : (ring : List Point) (p : Point) → length ring ≡ 0 → true ≡ is_new ring p
-unfolding is_new
-first_new [] p h = refl
-first_new (q ∷ ring) p h = absurd (omega arith)
+-- whether a point is new, by the last before it
+pub first_new : (ring : List Point) (p : Point) → None ≡ tip_of ring → true ≡ is_new ring p
+unfolding is_new tip_of
+first_new [] p e = refl
+first_new (q ∷ ring) p e = absurd (none-some _ e)
 
-pub later_new : (ring : List Point) (p : Point) → (length ring ≡ 0 → ⊥) → is_new ring p ≡ lt milli (reach_of p (last_of ring))
-unfolding is_new
-later_new [] p h = absurd (h refl)
-later_new (q ∷ ring) p h = refl
+pub later_new : (ring : List Point) (p q : Point) → Some q ≡ tip_of ring → lt milli (reach_of p q) ≡ is_new ring p
+unfolding is_new tip_of
+later_new [] p q e = absurd (none-some _ (sym e))
+later_new (r ∷ ring) p q e = ap (λ (x : Point). lt milli (reach_of p x)) (same_Some q _ e)
+
+-- a point that is not new has one before it
+pub old_some : (last : Option Point) (p : Point) {b : Bool} → ((ring : List Point) → last ≡ tip_of ring → b ≡ is_new ring p) → b ≡ false → is_none last ≡ false
+unfolding is_new tip_of
+old_some None p f e = sym (f [] refl) ∙ e
+old_some (Some q) p f e = refl
+
+-- a ring with no last point is of no segments, and one with a last point of some
+pub none_begun : {last : Option Point} {n : ℕ} → last ≡ None → is_none last ≡ nat_eq n 0 → n ≡ 0
+none_begun e b = eqb-true _ 0 (sym b ∙ ap (λ (x : Option Point). is_none x) e)
+
+pub some_begun : {last : Option Point} {q : Point} {n : ℕ} → last ≡ Some q → is_none last ≡ nat_eq n 0 → n ≡ 0 → ⊥
+some_begun e b z = true≢false (sym (eq-eqb _ 0 z) ∙ sym b ∙ ap (λ (x : Option Point). is_none x) e)
+
+pub end_tip : (ring : List Point) → unwrap_or (tip_of ring) origin ≡ last_of ring
+unfolding tip_of
+end_tip [] = refl
+end_tip (q ∷ ring) = refl
 
 last_added : (ring : List Point) (p : Point) → last_of (ring ++ p ∷ []) ≡ p
 last_added ring p =
     let e : length (ring ++ p ∷ []) - 1 ≡ length ring = simp length-append (omega arith) in
     rw e (get_or-append_seam ring p [] origin)
 
+tip_added : (ring : List Point) (p : Point) → tip_of (ring ++ p ∷ []) ≡ Some p
+unfolding tip_of
+tip_added [] p = refl
+tip_added (q ∷ ring) p = ap Some (last_added (q ∷ ring) p)
+
 module _ {blank m : List Float} {ring : List Point} {h : RingSoFar} (holds : Holds blank m ring h) (p : Point) where
   pub add_new : {m' : List Float} {q : ℕ} → is_new ring p ≡ true → Put m m' (3 * h.count) (flat (p ∷ [])) q
-      → Holds blank m' (added ring p) (record { count = h.count + 1; last = p })
+      → Holds blank m' (added ring p) (record { count = h.count + 1; last = Some p })
   unfolding added
   add_new e w =
       rw e
       (record {
         many = rw (length-append, holds.many);
-        end = sym (last_added ring p);
+        end = sym (tip_added ring p);
         front = rw (flat_append ring (p ∷ []), sets_append, zero-add, flat_length ring, ← holds.many, ← holds.front) w.memory;
       })
 
@@ -108,10 +143,11 @@ module _ {blank m : List Float} {ring : List Point} {h : RingSoFar} (holds : Hol
   add_old e = rw e holds
 
 -- the ring's own part of the memory
-pub ring_part : {blank m : List Float} {ring : List Point} {h : RingSoFar} → Holds blank m ring h → 3 * h.count ≤ length blank → take (3 * h.count) m ≡ flat ring
+pub ring_part : {blank m : List Float} {ring : List Point} {h : RingSoFar} → Holds blank m ring h → 3 * h.count ≤ length blank
+    → points_of (take (3 * h.count) m) ≡ ring
 ring_part {blank} {m} {ring} {h} holds k =
     let e : 3 * h.count ≡ length (flat ring) = omega (arith, holds.many, flat_length ring) in
-    rw (e, holds.front) (take_sets_front (flat ring) blank (omega arith))
+    rw (e, holds.front, take_sets_front (flat ring) blank (omega arith)) (points_flat ring)
 
 pub extended_next : (ring : List Point) (back : Bool) (s : List Float) (i : ℕ)
     → extended ring back s (i + 1) ≡ added (extended ring back s i) (point_from back s i)
@@ -204,40 +240,31 @@ module _ (ws : List ℕ) (xs : List Float) where
 -- ---- a segment more
 
 module _ (ws : List ℕ) (xs blank : List Float) (k : ℕ) {m : List Float} {j : Joined} (at : Joins ws xs blank m k j) where
-  pub join_passed : length (solid ws (k + 1)) ≡ length (solid ws k) → Joins ws xs blank m (k + 1) j
-  join_passed e = record { holds = rw e at.holds; solids = rw e at.solids; gap = rw e at.gap }
-
-  module _ {m' : List Float} (s : List Float) (back : Bool) (gap : Gap) (h : RingSoFar) where
-    pub join_next : length (solid ws (k + 1)) ≡ length (solid ws k) + 1 → s ≡ segment_at ws xs (length (solid ws k))
-        → (back ≡ turns_at ws xs j.segments j.ring.last) × (gap.root ≡ gap_at ws xs j.segments j.ring.last j.gap.root)
-        → Holds blank m' (extended (joined ws xs (length (solid ws k))).ring back s (length s / 3)) h
-        → Joins ws xs blank m' (k + 1) (record { ring = h; segments = j.segments + 1; gap = gap })
+  module _ {m' : List Float} (s : List Float) (back : Bool) (j' : Joined) where
+    pub join_next : length (solid ws (k + 1)) ≡ length (solid ws k) + 1 → s ≡ segment_at ws xs (length (solid ws k)) → j'.segments ≡ j.segments + 1
+        → (let end = unwrap_or j.ring.last origin in (back ≡ turns_at ws xs j.segments end) × (j'.gap.root ≡ gap_at ws xs j.segments end j.gap.root))
+        → Holds blank m' (extended (joined ws xs (length (solid ws k))).ring back s (length s / 3)) j'.ring
+        → Joins ws xs blank m' (k + 1) j'
     unfolding joined
-    join_next n here t w =
+    join_next n here more t w =
         let i = length (solid ws k) in
         let e : length (solid ws (k + 1)) ≡ suc i = omega arith in
-        let b : back ≡ turns_at ws xs i (last_of (joined ws xs i).ring) = rw (← at.holds.end, ← at.solids) t.0 in
-        let g : gap.root ≡ gap_at ws xs i (last_of (joined ws xs i).ring) (joined ws xs i).gap = rw (← at.holds.end, ← at.gap, ← at.solids) t.1 in
+        let end : unwrap_or j.ring.last origin ≡ last_of (joined ws xs i).ring = rw at.holds.end (end_tip (joined ws xs i).ring) in
+        let b : back ≡ turns_at ws xs i (last_of (joined ws xs i).ring) = rw (← end, ← at.solids) t.0 in
+        let g : j'.gap.root ≡ gap_at ws xs i (last_of (joined ws xs i).ring) (joined ws xs i).gap = rw (← end, ← at.gap, ← at.solids) t.1 in
         record {
           holds = rw (e, ← b, ← here) w;
-          solids = rw (e, at.solids) (add-one i);
+          solids = rw (e, more, at.solids) (add-one i);
           gap = rw e g;
         }
 
-    pub join_more : k < length ws / 2 → start_of 2 0 ws k < end_of 2 0 ws k
-        → s ≡ segment_of ws xs k → (back ≡ turns_at ws xs j.segments j.ring.last) × (gap.root ≡ gap_at ws xs j.segments j.ring.last j.gap.root)
-        → Holds blank m' (extended (joined ws xs (length (solid ws k))).ring back s (length s / 3)) h
-        → Joins ws xs blank m' (k + 1) (record { ring = h; segments = j.segments + 1; gap = gap })
-    join_more n l is = join_next (omega (arith, solid_more ws k l)) (is ∙ sym (segment_here ws k xs n l))
-
 -- ---- the ring as a whole
 
-pub closing_is : (xs : List Float) (ring : List Point) (b : Bool) → xs ≡ flat ring → 1 < length xs / 3
-    → le (reach_of (first_of xs) (final_of xs)) milli ≡ b → closing ring ≡ b
+closing_is : (xs : List Float) (b : Bool) → 1 < length xs / 3 → le (reach_of (first_of xs) (final_of xs)) milli ≡ b → closing (points_of xs) ≡ b
 unfolding closing
-closing_is xs ring b e n h =
-    let k : 1 < length ring = rw (e, flat_count ring) at n in
-    rw (lt-ltb 1 (length ring) k, ← (flat_first xs ring e), ← (flat_final xs ring e)) h
+closing_is xs b n h =
+    let k : 1 < length (points_of xs) = rw (points_count xs) n in
+    rw (lt-ltb 1 (length (points_of xs)) k, ← (points_first xs), ← (points_final xs)) h
 
 pub closing_few : (ring : List Point) → length ring ≤ 1 → closing ring ≡ false
 unfolding closing
@@ -252,15 +279,15 @@ unfolding closed_up
 count_open ring h = rw h
 
 -- how many points are left with a closing point, and with none
-module _ (xs : List Float) (ring : List Point) (e : xs ≡ flat ring) where
-  pub one_less : 1 < length xs / 3 → le (reach_of (first_of xs) (final_of xs)) milli ≡ true → length xs / 3 - 1 ≡ length (closed_up ring)
-  one_less n h = rw (← (count_closed ring (closing_is xs ring true e n h)), e, flat_count ring)
+module _ (xs : List Float) where
+  pub one_less : 1 < length xs / 3 → le (reach_of (first_of xs) (final_of xs)) milli ≡ true → length xs / 3 - 1 ≡ length (closed_up (points_of xs))
+  one_less n h = rw (← (count_closed (points_of xs) (closing_is xs true n h)), points_count xs)
 
-  pub all_far : 1 < length xs / 3 → le (reach_of (first_of xs) (final_of xs)) milli ≡ false → length xs / 3 ≡ length (closed_up ring)
-  all_far n h = rw (← (count_open ring (closing_is xs ring false e n h)), e, flat_count ring)
+  pub all_far : 1 < length xs / 3 → le (reach_of (first_of xs) (final_of xs)) milli ≡ false → length xs / 3 ≡ length (closed_up (points_of xs))
+  all_far n h = rw (← (count_open (points_of xs) (closing_is xs false n h)), points_count xs)
 
-  pub all_few : length xs / 3 ≤ 1 → length xs / 3 ≡ length (closed_up ring)
-  all_few n = let k : length ring ≤ 1 = rw (e, flat_count ring) at n in rw (← (count_open ring (closing_few ring k)), e, flat_count ring)
+  pub all_few : length xs / 3 ≤ 1 → length xs / 3 ≡ length (closed_up (points_of xs))
+  all_few n = rw (← (count_open (points_of xs) (closing_few (points_of xs) (rw (points_count xs) n))), points_count xs)
 
 pub area_next : (ring : List Point) (i : ℕ) → 1 ≤ i → area_to ring (i + 1 - 1) ≡ area_to ring (i - 1) ⊕ side_at ring i
 unfolding area_to
@@ -323,6 +350,7 @@ module _ {ws : List ℕ} {xs : List Float} (s : SoundLists ws xs) (k : ℕ) (h :
         next = omega (arith, solid_more ws k t);
         here = part ∙ sym (segment_here ws k xs h t);
         below = solid_fits ws k (length ws / 2) h t;
+        some = omega (arith, ap length part, segment_count);
         after = rw (last_end_next ws k) (omega (arith, r.after, ap length part, segment_count));
       }
 
@@ -342,13 +370,13 @@ reversed_length : (back : Bool) (ring : List Point) → length (reversed back ri
 unfolding reversed reversed_at
 reversed_length back ring = gather_even (reversed_at back ring) 1 (λ i. refl) (length ring) ∙ one-mul (length ring)
 
-pub open_part : (xs : List Float) (ring : List Point) (n : ℕ) → xs ≡ flat ring → n ≡ length (closed_up ring) → take (3 * n) xs ≡ flat (closed_up ring)
-open_part xs ring n e h = rw (e, flat_take n ring, h) (ap flat (front ring (closing ring) refl))
+pub open_part : (xs : List Float) (n : ℕ) → n ≡ length (closed_up (points_of xs)) → points_of (take (3 * n) xs) ≡ closed_up (points_of xs)
+open_part xs n h = rw (points_take n xs, h) (front (points_of xs) (closing (points_of xs)) refl)
 
-pub widest_is : (l : Line) (xs : List Float) (gap g d : Float) (p q : Point) → xs ≡ flat l.ring → gap ≡ l.gap → g ≡ max_of gap d → d ≡ reach_of p q
+pub widest_is : (l : Line) (xs : List Float) (gap g d : Float) (p q : Point) → points_of xs ≡ l.ring → gap ≡ l.gap → g ≡ max_of gap d → d ≡ reach_of p q
     → p ≡ final_of xs → q ≡ first_of xs → g ≡ widest l
 unfolding widest
-widest_is l xs gap g d p q e h a b s t = rw (← (flat_final xs l.ring e), ← (flat_first xs l.ring e), ← h, ← s, ← t, ← b) a
+widest_is l xs gap g d p q e h a b s t = rw (← e, ← (points_final xs), ← (points_first xs), ← h, ← s, ← t, ← b) a
 
 -- there is room for n points
 pub room : (before : List Float) (n : ℕ) → found (Ok tt) ≡ refuse (ltb (length before) (3 * n)) 3 (3 * n) fine → 3 * n ≤ length before
@@ -361,29 +389,20 @@ module _ (ws : List ℕ) (xs before : List Float) where
   unfolding found outline_answer judge told leaves
   lists_told r e = record { given = rw (← e); memory = rw (← e) }
 
-  pub lists_refused : (r : Refusal) → outline_fault ws xs ≡ fault (number_of r) (place_of r) → Outlines ws xs before before (Err r)
-  unfolding found
-  lists_refused r e = lists_told r (sym e)
-
   -- the output is short
   pub short_told : (r : Refusal) (n : ℕ) → outline_fault ws xs ≡ fine → n ≡ length (ring_of ws xs)
       → found (Err r) ≡ refuse (ltb (length before) (3 * n)) 3 (3 * n) fine → Outlines ws xs before before (Err r)
   unfolding found outline_answer judge told leaves short_fault
   short_told r n e c h = let s = rw c at h in record { given = rw (e, ← s); memory = rw (e, ← s) }
 
-  pub short_refused : (n : ℕ) → outline_fault ws xs ≡ fine → n ≡ length (ring_of ws xs) → length before < 3 * n
-      → Outlines ws xs before before (Err (ShortOutput (3 * n)))
-  unfolding found number_of place_of refuse
-  short_refused n e c h = short_told (ShortOutput (3 * n)) n e c (rw (lt-ltb (length before) (3 * n) h))
-
   -- the call is taken
-  pub ring_made : (after : List Float) (n d : ℕ) (g : Float) (t : Bool) (q : ℕ) → outline_fault ws xs ≡ fine → n ≡ length (ring_of ws xs)
-      → 3 * n ≤ length before → d ≡ dropped_of ws → g ≡ widest (whole_line ws xs) → t ≡ turned_of (ring_of ws xs) → Put before after 0 (flat (reversed t (ring_of ws xs))) q
+  pub ring_made : (after : List Float) (n d : ℕ) (g : Float) (t : Bool) → outline_fault ws xs ≡ fine → n ≡ length (ring_of ws xs)
+      → 3 * n ≤ length before → d ≡ dropped_of ws → g ≡ widest (whole_line ws xs) → t ≡ turned_of (ring_of ws xs) → after ≡ sets before 0 (flat (reversed t (ring_of ws xs)))
       → Outlines ws xs before after (Ok (record { count = n; dropped = d; gap = g; closed = le g tenth; turned = t }))
   unfolding outline_answer judge told leaves short_fault refuse outline_of result_of
-  ring_made after n d g t q e c h dr gp tu w =
+  ring_made after n d g t e c h dr gp tu w =
       let s : ltb (length before) (3 * length (ring_of ws xs)) ≡ false = rw (← c) (le-ltb (length before) (3 * n) h) in
-      let put = rw tu at w.memory in
+      let put = rw tu at w in
       let fits : length (flat (reversed (turned_of (ring_of ws xs)) (ring_of ws xs))) ≤ length before =
       rw (flat_length (reversed (turned_of (ring_of ws xs)) (ring_of ws xs)), reversed_length (turned_of (ring_of ws xs)) (ring_of ws xs), ← c) h in
       record {

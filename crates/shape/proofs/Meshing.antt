@@ -1,5 +1,5 @@
 -- One lane more: its room, what it adds to the sizes, and what it adds to the memory; and from the checks to the answer. Assumes nothing.
-use Rattle.std.proofs.Common.{◌≡◌, ℕ, zero, suc, ◌+◌, ◌-◌, ◌*◌, ◌/◌, ◌^◌, ◌<◌, ◌≤◌, Bool, true, false, List, [], ◌∷◌, length, take, drop, sym, refl, ap, ◌∙◌, subst, zero-add, arith, length-append, length-take, ltb-false, Result, Ok, Err}
+use Rattle.std.proofs.Common.{◌≡◌, ℕ, zero, suc, ◌+◌, ◌-◌, ◌*◌, ◌/◌, ◌^◌, ◌<◌, ◌≤◌, Bool, true, false, List, [], ◌∷◌, length, drop, sym, refl, ap, ◌∙◌, subst, zero-add, arith, length-append, length-take, ltb-false, Result, Ok, Err}
 use lib.Ieee.{Float, lt}
 use Rattle.rounding.specs.Thresholds.{micro}
 use Rattle.shape.specs.declared.memory.Lengths.{Lengths}
@@ -35,7 +35,7 @@ use Rattle.shape.specs.SurfaceMesh.{
 }
 use Rattle.shape.specs.MeshSteps.{lengths_at, Grown, Topped, Enough, Sizes, Room, Wrote, Written, Fitting}
 use Rattle.shape.proofs.Laws.Gather.{any_none, gather_next, gather_fits, gather_most}
-use Rattle.shape.proofs.Laws.Memory.{put_none, put_length, put_turn, put_front}
+use Rattle.shape.proofs.Laws.Memory.{put_none, put_length, put_turn}
 use Rattle.shape.proofs.Laws.MeshMemory.{Fits, room_fits, fits_room, mesh_left, mesh_stays}
 use Rattle.shape.proofs.Laws.Refusal.{passed, else_passed, stops_first, goes_then}
 use Rattle.shape.proofs.Laws.SurfaceMesh.{normals_match}
@@ -57,18 +57,16 @@ pub lane_short : (g : Given) (k : ℕ) → run_long 10 1 g.lanes 4096 k ≡ fals
 unfolding lane_at
 lane_short g k h = run_short g.points g.lanes k h
 
--- what the sizes gain by a lane whose kept points stand in m
-pub grow : (l : Lane) (m₀ m : List ℕ) (n : ℕ) (at : At) (i w : ℕ) → Put m₀ m 0 (kept l) n → n ≤ 4096 → length m₀ ≡ 4096
-    → ((v : ℕ) → i ≡ length (indices_of v l (take n m))) → i ≤ 24576
-    → ((id v v' j j' : ℕ) → w ≡ length (span_of n id v v' j j')) → w ≤ 5
-    → Grown l at (record { floats = at.floats + 6 * n; index = at.index + i; word = at.word + w })
-grow l m₀ m n at i w p few long is less ws five =
-    let e : take n m ≡ kept l = put_front p (omega arith) in
-    let k : n ≡ length (kept l) = p.ends ∙ zero-add (length (kept l)) in
+-- what the sizes gain by a lane whose kept points are ks
+pub grow : (l : Lane) {ks : List ℕ} (at : At) (i w : ℕ) → ks ≡ kept l → length ks ≤ 4096
+    → ((v : ℕ) → i ≡ length (indices_of v l ks)) → i ≤ 24576
+    → ((id v v' j j' : ℕ) → w ≡ length (span_of (length ks) id v v' j j')) → w ≤ 5
+    → Grown l at (record { floats = at.floats + 6 * length ks; index = at.index + i; word = at.word + w })
+grow l {ks} at i w e few is less ws five =
     record {
-      floats = omega (arith, vertices_length l (kept l));
+      floats = omega (arith, ap length e, vertices_length l (kept l));
       index = λ v. ap (λ (x : ℕ). at.index + x) (rw e at (is v));
-      word = λ id v v' j j'. ap (λ (x : ℕ). at.word + x) (rw k at (ws id v v' j j'));
+      word = λ id v v' j j'. ap (λ (x : ℕ). at.word + x) (rw e at (ws id v v' j j'));
       few_floats = omega arith;
       few_index = omega arith;
       few_words = omega arith;

@@ -59,7 +59,7 @@ not_nearer a b s h = sym (lt_false (rooted_of a) (rooted_of b) (rooted_grows b a
 
 -- ---- the greatest gap
 
-pick : (b : Bool) (x y : Float) → T b → cond b x y ≡ x
+pub pick : (b : Bool) (x y : Float) → T b → cond b x y ≡ x
 pick true x y h = refl
 pick false x y h = absurd h
 

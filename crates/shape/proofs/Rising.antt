@@ -1,5 +1,6 @@
 -- Runs that rise, each start from the last end and each end from its start, and keep within a list are not ragged; others are. Assumes nothing.
 use Rattle.std.proofs.Common.{◌≡◌, ℕ, zero, suc, ◌+◌, ◌<◌, ◌≤◌, Bool, true, false, not, ◌||◌, ltb, leb, List, sym, refl, ◌∙◌, ⊎_elim, le_of_suc-le-suc, eq-or-lt_of_le, add-one, arith, le-ltb, lt-ltb, le-leb}
+use Rattle.std.proofs.lemmas.Bool.{or_left, or_right}
 use native.Mathlib.Decide.{dec_lt}
 use borrow.Author.Tests.{lt-leb}
 use Rattle.shape.specs.Gather.{any}
@@ -53,11 +54,7 @@ module _ (ss : List ℕ) (a n : ℕ) where
   unfolding run_bad
   back m i l p q h =
       let f : start_of 5 a ss i < last_end 5 a ss i = omega arith in
-      any_some (run_bad 5 a ss n) i m l (or_more_left (ltb (end_of 5 a ss i) (start_of 5 a ss i)) _ (ltb n (end_of 5 a ss i)) (lt-ltb (start_of 5 a ss i) (last_end 5 a ss i) f))
-    where
-      or_more_left : (x y z : Bool) → y ≡ true → ((x || y) || z) ≡ true
-      or_more_left true y z e = refl
-      or_more_left false y z e = rw e
+      any_some (run_bad 5 a ss n) i m l (or_left _ (ltb n (end_of 5 a ss i)) (or_right (ltb (end_of 5 a ss i) (start_of 5 a ss i)) _ (lt-ltb (start_of 5 a ss i) (last_end 5 a ss i) f)))
 
   turned : (m i : ℕ) {s e : ℕ} → i < m → s ≡ start_of 5 a ss i → e ≡ end_of 5 a ss i → e < s → any (run_bad 5 a ss n) m ≡ true
   unfolding run_bad
@@ -68,11 +65,7 @@ module _ (ss : List ℕ) (a n : ℕ) where
   past : (m : ℕ) → n < last_end 5 a ss m → any (run_bad 5 a ss n) m ≡ true
   unfolding run_bad last_end any
   past zero h = absurd (omega arith)
-  past (suc m) h = any_some (run_bad 5 a ss n) m (suc m) (omega arith) (or_last (ltb (end_of 5 a ss m) (start_of 5 a ss m) || ltb (start_of 5 a ss m) (last_end 5 a ss m)) _ (lt-ltb n (end_of 5 a ss m) h))
-    where
-      or_last : (x y : Bool) → y ≡ true → (x || y) ≡ true
-      or_last true y e = refl
-      or_last false y e = e
+  past (suc m) h = any_some (run_bad 5 a ss n) m (suc m) (omega arith) (or_right (ltb (end_of 5 a ss m) (start_of 5 a ss m) || ltb (start_of 5 a ss m) (last_end 5 a ss m)) _ (lt-ltb n (end_of 5 a ss m) h))
 
 -- the test of both kinds of run
 module _ (ss : List ℕ) (n k m : ℕ) where

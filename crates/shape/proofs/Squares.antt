@@ -1,10 +1,9 @@
 -- Laws behind the height in a junction: the lines around a square, the square itself, the squares that are tried, and the cases of the height. Assumes nothing.
-use Rattle.std.proofs.Common.{◌≡◌, ℕ, ◌+◌, ◌-◌, ◌*◌, ◌<◌, ◌≤◌, Bool, true, false, ◌&&◌, T, eqb, List, length, ℤ, refl, ap, ◌∙◌, arith, le-ltb, lt-ltb, Some, None}
-use Rattle.std.proofs.Math.Bool.{or-true}
+use Rattle.std.proofs.Common.{◌≡◌, ℕ, ◌+◌, ◌-◌, ◌*◌, ◌<◌, ◌≤◌, Bool, true, false, ◌&&◌, T, List, length, ℤ, refl, ap, ◌∙◌, arith, le-ltb, lt-ltb, Some, None}
 use lib.IntN.{pred_ℤ, sub_ℕ}
-use lib.Ieee.{Float, nan, inf, fin, le, eq, ne, neg, is_nan, to_signed}
-use Rattle.rounding.proofs.Laws.Order.{T_of, not-T-of, nan_of_differs}
-use Rattle.shape.specs.Double.{0d, 1d, ◌⊟◌, ◌⧄◌}
+use lib.Ieee.{Float, le, eq, neg, to_signed}
+use Rattle.rounding.proofs.Laws.Order.{T_of}
+use Rattle.shape.specs.Double.{0d, 1d, ◌⊟◌}
 use Rattle.shape.specs.Elevation.{
   Spot,
   row_of,
@@ -23,15 +22,10 @@ use Rattle.shape.specs.Elevation.{
   tried,
   on_grid,
   floored,
-  snap_of,
   within,
-  widest_of,
   count,
-  coords_of,
-  height_of,
 }
 use Rattle.shape.specs.ElevationSteps.{Placed, Near}
-use Rattle.shape.specs.declared.elevation.ElevationGrid.{ElevationGrid}
 use Rattle.shape.specs.declared.elevation.Line.{Line}
 use Rattle.shape.specs.declared.elevation.Place.{Place}
 use Rattle.shape.proofs.Heights.{next_line, after_line, last_line, row_line, no_row, near_row, near_column}
@@ -132,37 +126,9 @@ on_grid_is z u v a b p q =
 
 -- ---- the cases of the height
 
-nan_is : (x : Float) → ne x x ≡ true → is_nan x ≡ true
-unfolding is_nan
-nan_is x e = rw (nan_of_differs x e)
-
-num_is : (x : Float) → ne x x ≡ false → is_nan x ≡ false
-unfolding is_nan ne
-num_is nan e = absurd (not-T-of e tt)
-num_is (inf s) e = refl
-num_is (fin s m e) h = refl
-
 and_both : (a b : Bool) → T (a && b) → T a × T b
 and_both true b h = (tt, h)
 and_both false b h = absurd h
-
-module _ (g : ElevationGrid) (rows : List ℕ) (left right : List Float) (s t : Float) where
-  pub spacing_nan : ne g.spacing g.spacing ≡ true → None ≡ height_of g rows left right s t
-  unfolding height_of
-  spacing_nan e = rw (nan_is g.spacing e)
-
-  pub spacing_low : le g.spacing 0d ≡ true → None ≡ height_of g rows left right s t
-  unfolding height_of
-  spacing_low e = rw (e, or-true (is_nan g.spacing))
-
-  pub no_rows : eqb (row_count rows) 0 ≡ true → ne g.spacing g.spacing ≡ false → le g.spacing 0d ≡ false → None ≡ height_of g rows left right s t
-  unfolding height_of
-  no_rows e a b = rw (num_is g.spacing a, b, e)
-
-  pub some_rows : {u v : Float} → eqb (row_count rows) 0 ≡ false → ne g.spacing g.spacing ≡ false → le g.spacing 0d ≡ false
-      → u ≡ snap_of ((s ⊟ g.start) ⧄ g.spacing) → v ≡ snap_of (t ⧄ g.spacing) → coords_of rows left right u v ≡ height_of g rows left right s t
-  unfolding height_of
-  some_rows e a b p q = rw (num_is g.spacing a, b, e, p, q)
 
 -- a coordinate within the grid is within the limits
 module _ (lo x hi : Float) (e : within lo x hi ≡ true) where
@@ -175,13 +141,3 @@ row_near u n h e = let p = inside 0d u (count n) e in near_row u n h p.0 p.1
 
 pub column_near : (v : Float) (n : ℕ) → n ≤ 1024 → within (neg (count n)) v (count n) ≡ true → Near v
 column_near v n h e = let p = inside (neg (count n)) v (count n) e in near_column v n h p.0 p.1
-
-module _ (rows : List ℕ) (left right : List Float) (u v : Float) where
-  pub off_rows : within 0d u (count (row_count rows - 1)) ≡ false → None ≡ coords_of rows left right u v
-  unfolding coords_of
-  off_rows e = rw e
-
-  module _ (most : ℕ) (w : most ≡ widest_of rows) (e : within 0d u (count (row_count rows - 1)) ≡ true) where
-    pub off_columns : within (neg (count most)) v (count most) ≡ false → None ≡ coords_of rows left right u v
-    unfolding coords_of
-    off_columns f = rw (e, ← w, f)

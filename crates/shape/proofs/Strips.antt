@@ -1,29 +1,15 @@
 -- The strip of one lane: what is kept, legs from one rib to the next, and how much a strip holds. Assumes nothing.
-use Rattle.std.proofs.Common.{◌≡◌, ℕ, ◌+◌, ◌-◌, ◌*◌, ◌<◌, ◌≤◌, min, Bool, true, false, cond, ◌&&◌, T, ltb, List, [], ◌∷◌, length, get_or, replicate, refl, add-one, arith, length-append, lt-ltb}
+use Rattle.std.proofs.Common.{◌≡◌, ℕ, ◌+◌, ◌*◌, ◌<◌, ◌≤◌, Bool, true, false, cond, T, List, [], ◌∷◌, length, refl, add-one, arith, length-append, lt-ltb}
 use lib.Ieee.{Float, lt, of_bits}
-use lib.ListN.{length-replicate}
 use Rattle.rounding.specs.Extremes.{max_of}
 use Rattle.rounding.specs.Thresholds.{tenth}
 use Rattle.rounding.proofs.Laws.Order.{lt_of_le_of_lt, not-T-of}
 use Rattle.rounding.proofs.Laws.Extremes.{max_picks}
-use Rattle.vector.specs.Coords.{point_add, point_sub_vector, vector_mul, cross_of, up_vector, normalize_or}
-use Rattle.vector.specs.Geometry.{left_normal_of}
-use Rattle.vector.specs.declared.coords.Point.{Point}
-use Rattle.vector.specs.declared.coords.Vector.{Vector}
-use Rattle.shape.specs.declared.rib.Leg.{Leg}
 use Rattle.shape.specs.declared.rib.Rib.{Rib}
-use Rattle.shape.specs.declared.rib.Spread.{Spread}
 use Rattle.shape.specs.Strip.{
   Lane,
-  kept_point,
   leg_in,
   leg_out,
-  along_of,
-  slope_of,
-  lateral_of,
-  half_of,
-  spread_of,
-  rib_at,
   triangle_of,
   segment_of,
   no_area,
@@ -74,21 +60,3 @@ unfolding segment_of
 segment_length v a b =
     length-append (triangle_of (no_area a.left a.right b.right) v (v + 1) (v + 3))
     (triangle_of (no_area a.left b.right b.left) v (v + 3) (v + 2))
-
-pub blank_length : length (replicate {A = ℕ} 4096 0) ≡ 4096
-blank_length = length-replicate {A = ℕ} 4096 0
-
--- a rib, from its parts in the order in which they are worked out
-pub rib_made : (l : Lane) (ks : List ℕ) (i : ℕ) {k : ℕ} {p a b : Point} {inc out : Leg} {way left across slope : Vector} {corner : Bool} {h : Float} {m : Spread}
-    → k ≡ get_or ks i 0 → p ≡ kept_point l.points ks i → inc ≡ leg_in l.points ks i → out ≡ leg_out l.points ks i
-    → way ≡ along_of l.tangents k inc.way out.way → left ≡ left_normal_of way → across ≡ lateral_of l.banks k left way
-    → corner ≡ (ltb 0 i && ltb (i + 1) (length ks)) → h ≡ half_of l.widths k l.width → m ≡ spread_of corner inc out left h
-    → a ≡ kept_point l.points ks (i - 1) → b ≡ kept_point l.points ks (min (i + 1) (length ks - 1)) → slope ≡ slope_of way a b
-    → record {
-      left = point_add p (vector_mul across m.left);
-      right = point_sub_vector p (vector_mul across m.right);
-      up = normalize_or (cross_of slope across) up_vector;
-    }
-    ≡ rib_at l ks i
-unfolding rib_at
-rib_made l ks i ek ep ei eo ew el ea ec eh em e_a e_b es = rw (es, e_a, e_b, em, eh, ec, ea, el, ew, eo, ei, ep, ek)

@@ -145,26 +145,26 @@ module _ (rows : List ℕ) (l r : ℕ) where
     unfolding pass_of
     sound_runs = pass_sound (odd_runs rows l r (row_count rows)) (widest_of rows) w (sym o)
 
-    pub found_uneven : uneven 6 rows ≡ true → (Err Ragged) ≡ grid_check rows l r
-    unfolding grid_check grid_long grid_ragged odd_runs
-    found_uneven u =
-        let a = any (run_long 6 2 rows 1024) (row_count rows) in
-        let b = any (run_long 6 4 rows 1024) (row_count rows) in
-        let c = any (run_bad 6 2 rows l) (row_count rows) in
-        let d = any (run_bad 6 4 rows r) (row_count rows) in
-        let f = or_left (a || b) (c || d) sound_runs.0 in
-        rw (e, u, or_left a b f, or_right a b f)
-
-    pub found_widest : uneven 6 rows ≡ false → Ok w ≡ grid_check rows l r
-    unfolding grid_check grid_long grid_ragged odd_runs
-    found_widest u =
+    -- no side of a row is long, and no run is bad
+    all_sound : ((any (run_long 6 2 rows 1024) (row_count rows) ≡ false) × (any (run_long 6 4 rows 1024) (row_count rows) ≡ false))
+        × ((any (run_bad 6 2 rows l) (row_count rows) ≡ false) × (any (run_bad 6 4 rows r) (row_count rows) ≡ false))
+    unfolding odd_runs
+    all_sound =
         let a = any (run_long 6 2 rows 1024) (row_count rows) in
         let b = any (run_long 6 4 rows 1024) (row_count rows) in
         let c = any (run_bad 6 2 rows l) (row_count rows) in
         let d = any (run_bad 6 4 rows r) (row_count rows) in
         let f = or_left (a || b) (c || d) sound_runs.0 in
         let g = or_right (a || b) (c || d) sound_runs.0 in
-        rw (e, u, or_left a b f, or_right a b f, or_left c d g, or_right c d g, sound_runs.1)
+        ((or_left a b f, or_right a b f), (or_left c d g, or_right c d g))
+
+    pub found_uneven : uneven 6 rows ≡ true → (Err Ragged) ≡ grid_check rows l r
+    unfolding grid_check grid_long grid_ragged
+    found_uneven u = rw (e, u, all_sound.0.0, all_sound.0.1)
+
+    pub found_widest : uneven 6 rows ≡ false → Ok w ≡ grid_check rows l r
+    unfolding grid_check grid_long grid_ragged
+    found_widest u = rw (e, u, all_sound.0.0, all_sound.0.1, all_sound.1.0, all_sound.1.1, sound_runs.1)
 
 -- ---- what a finding says
 

@@ -2,7 +2,6 @@
 use Rattle.std.proofs.Common.{◌≡◌, ℕ, ◌+◌, ◌*◌, ◌/◌, ◌%◌, ◌<◌, ◌≤◌, Bool, true, false, cond, not, ◌&&◌, ◌==◌, Option, leb, List, length, get_or, Result, Ok, Err, sym, refl, ◌∙◌, arith, below_more, lt-ltb, eq-eqb, ne_eqb, le-leb}
 use Rattle.std.specs.Bool.{then_some}
 use native.Mathlib.Decide.{dec_lt}
-use borrow.Author.Tests.{lt-leb}
 use lib.Ieee.{Float, nan}
 use lib.Ieee.Scale.{finite}
 use Rattle.vector.specs.Coords.{all_finite, point_finite}
@@ -10,7 +9,6 @@ use Rattle.shape.specs.declared.validate.Flaw.{Flaw}
 use Rattle.shape.specs.declared.validate.Flaw.TheVariants.{Past, Flat}
 use Rattle.shape.specs.Gather.{any, IsFirst}
 use Rattle.shape.specs.Lists.{point_at}
-use Rattle.shape.specs.Strip.{no_area}
 use Rattle.shape.specs.Verdict.{FiniteBelow, unsound, flat_or, finding_of, is_faulty, faulty_at, triples_of}
 use Rattle.shape.proofs.Laws.Gather.{any_none, least_at, least_none}
 
@@ -77,43 +75,3 @@ is_faulty_flat : (x : Bool) → is_faulty (cond x (Err Flat) (Ok tt)) ≡ x
 unfolding is_faulty
 is_faulty_flat true = refl
 is_faulty_flat false = refl
-
--- three indices a, b and c, in a mesh of n vertices: what each test tells
-module _ (vs : List Float) (is : List ℕ) (t n a b c : ℕ) (sized : n ≡ length vs / 3) (long : 3 * t + 2 < length is) (A : a ≡ get_or is (3 * t) 0)
-    (B : b ≡ get_or is (3 * t + 1) 0) (C : c ≡ get_or is (3 * t + 2) 0) where
-  pub past_first : n ≤ a → true ≡ faulty_at vs is t
-  unfolding faulty_at finding_of is_faulty
-  past_first p = rw (← sized, ← A, le-leb _ _ p)
-
-  pub past_second : a < n → n ≤ b → true ≡ faulty_at vs is t
-  unfolding faulty_at finding_of is_faulty
-  past_second p q = rw (← sized, ← A, lt-leb _ _ p, lt-leb (length is) (3 * t + 1) (omega arith), ← B, le-leb _ _ q)
-
-  pub past_third : a < n → b < n → n ≤ c → true ≡ faulty_at vs is t
-  unfolding faulty_at finding_of is_faulty
-  past_third p q r =
-      rw (← sized, ← A, lt-leb _ _ p, lt-leb (length is) (3 * t + 1) (omega arith), ← B, lt-leb _ _ q, lt-leb (length is) (3 * t + 2) long, ← C, le-leb _ _ r)
-
-  -- no index is past the vertices
-  pub inside : a < n → b < n → c < n → is_faulty (flat_or vs a b c) ≡ faulty_at vs is t
-  unfolding faulty_at finding_of
-  inside p q r =
-      rw
-      (← sized, ← A, lt-leb _ _ p, lt-leb (length is) (3 * t + 1) (omega arith), ← B, lt-leb _ _ q, lt-leb (length is) (3 * t + 2) long, ← C, lt-leb _ _ r)
-
-module _ (vs : List Float) (a b c : ℕ) where
-  pub flat_first : a ≡ b → true ≡ is_faulty (flat_or vs a b c)
-  unfolding flat_or is_faulty
-  flat_first e = rw (eq-eqb _ _ e)
-
-  pub flat_second : (a ≡ b → ⊥) → b ≡ c → true ≡ is_faulty (flat_or vs a b c)
-  unfolding flat_or is_faulty
-  flat_second u e = rw (ne_eqb _ _ u, eq-eqb _ _ e)
-
-  pub flat_third : (a ≡ b → ⊥) → (b ≡ c → ⊥) → a ≡ c → true ≡ is_faulty (flat_or vs a b c)
-  unfolding flat_or is_faulty
-  flat_third u v e = rw (ne_eqb _ _ u, ne_eqb _ _ v, eq-eqb _ _ e)
-
-  pub by_area : (a ≡ b → ⊥) → (b ≡ c → ⊥) → (a ≡ c → ⊥) → no_area (point_at vs a) (point_at vs b) (point_at vs c) ≡ is_faulty (flat_or vs a b c)
-  unfolding flat_or
-  by_area u v w = rw (ne_eqb _ _ u, ne_eqb _ _ v, ne_eqb _ _ w) (sym (is_faulty_flat (no_area (point_at vs a) (point_at vs b) (point_at vs c))))

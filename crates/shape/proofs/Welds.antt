@@ -1,7 +1,8 @@
 -- A step that is long enough is kept, as its square shows. Assumes nothing.
-use Rattle.std.proofs.Common.{◌≡◌, Bool, true, false, T, refl, ⊎_elim}
+use Rattle.std.proofs.Common.{◌≡◌, true, T, ⊎_elim}
 use lib.Count.{count_trailing_zeros}
 use lib.Ieee as Ieee
+use lib.Ieee.Bits.{is_true}
 use lib.Ieee.{Float, binary32, of_bits, lt, le}
 use Rattle.rounding.specs.Root as Root
 use Rattle.rounding.specs.Root.{sqrt_of}
@@ -14,10 +15,6 @@ use Rattle.rounding.proofs.Laws.RootOrder.{sqrt_mono}
 use Rattle.rounding.specs.Numbers.{nought}
 use Rattle.vector.specs.Single.{◌⊗◌, single, 0f}
 use Rattle.shape.specs.Strip.{quarter, keeps_step}
-
-so : (b : Bool) → T b → b ≡ true
-so true h = refl
-so false h = absurd h
 
 -- a step of square c and more, after one of square d and less
 module _ (c d q l : Float) (C : T (le nought c)) (D : T (le tenth (quarter ⊗ sqrt_of binary32 d))) (E : T (lt (quarter ⊗ sqrt_of binary32 d) (sqrt_of binary32 c)))
@@ -33,7 +30,7 @@ module _ (c d q l : Float) (C : T (le nought c)) (D : T (le tenth (quarter ⊗ s
   long_step : keeps_step (sqrt_of binary32 l) (sqrt_of binary32 q) ≡ true
   unfolding keeps_step
   long_step =
-      so (lt (max_of (quarter ⊗ sqrt_of binary32 l) tenth) (sqrt_of binary32 q))
+      is_true (lt (max_of (quarter ⊗ sqrt_of binary32 l) tenth) (sqrt_of binary32 q))
       (lt_of_le_of_lt (max_of (quarter ⊗ sqrt_of binary32 l) tenth) (quarter ⊗ sqrt_of binary32 d) (sqrt_of binary32 q) most_step
       (lt_of_lt_of_le (quarter ⊗ sqrt_of binary32 d) (sqrt_of binary32 c) (sqrt_of binary32 q) E (sqrt_mono binary32 c q C up)))
 

@@ -1,5 +1,5 @@
 -- What the steps of joining promise one another (document 01, "Junction outline"). Definitions only. Assumes nothing.
-use Rattle.std.specs.Prelude.{◌≡◌, ℕ, ◌+◌, ◌*◌, ◌/◌, ◌<◌, ◌≤◌, false, T, List, length, Float}
+use Rattle.std.specs.Prelude.{◌≡◌, ℕ, ◌+◌, ◌*◌, ◌/◌, ◌<◌, ◌≤◌, false, T, Option, None, Some, List, [], ◌∷◌, length, Float}
 use Rattle.std.proofs.lemmas.List.Edits.{sets}
 use Rattle.std.specs.Float.{binary32, binary64}
 use Rattle.std.specs.Float.Ieee.{le, mul}
@@ -51,10 +51,23 @@ pub record Adds (ws : List ℕ) (xs : List Float) (k : ℕ) (s : List Float) : T
   pub next : length (solid ws (k + 1)) ≡ length (solid ws k) + 1
   pub here : s ≡ segment_at ws xs (length (solid ws k))
   pub below : length (solid ws k) < solids ws
+  pub some : 3 ≤ length s
   pub after : 3 * last_end 2 0 ws k + length s ≤ 3 * last_end 2 0 ws (k + 1)
+
+-- the points of a list of coordinates, as far as they are whole
+unfoldable pub points_of : List Float → List Point
+points_of [] = []
+points_of (x ∷ []) = []
+points_of (x ∷ y ∷ []) = []
+points_of (x ∷ y ∷ z ∷ xs) = record { x = x; y = y; z = z } ∷ points_of xs
+
+-- the last point of a ring, if it has any
+unfoldable pub tip_of : List Point → Option Point
+tip_of [] = None
+tip_of (q ∷ ring) = Some (last_of (q ∷ ring))
 
 -- the memory, blank before, has the ring's coordinates at its front, and h tells of the ring
 pub record Holds (blank memory : List Float) (ring : List Point) (h : RingSoFar) : Type 0 where
   pub many : h.count ≡ length ring
-  pub end : h.last ≡ last_of ring
+  pub end : h.last ≡ tip_of ring
   pub front : memory ≡ sets blank 0 (flat ring)

@@ -1,5 +1,5 @@
 // The triangles of a ring in plan, by clipping its ears.
-#![tactic(auto, using(crate::proofs::Laws::Gather::any_next, crate::proofs::Laws::Gather::any_none, crate::proofs::Laws::Gather::any_some, crate::proofs::Laws::Gather::least_at, crate::proofs::Laws::Gather::least_none, crate::proofs::Laws::Ears::before_first, crate::proofs::Laws::Ears::before_rest, crate::proofs::Laws::Ears::after_last, crate::proofs::Laws::Ears::after_rest), unfolding(crate::specs::Refusal::found, crate::specs::Refusal::told, crate::specs::Refusal::refuse, crate::specs::Refusal::judge, crate::specs::Refusal::number_of, crate::specs::Refusal::place_of, crate::specs::Refusal::leaves, crate::specs::Gather::any, crate::specs::Lists::longer, crate::specs::Lists::uneven, crate::specs::Ears::cross, crate::specs::Ears::inside, crate::specs::Ears::turns_left, crate::specs::Ears::blocks, crate::specs::Ears::ear_of, crate::specs::Ears::is_ear, crate::specs::Ears::first_ear, crate::specs::Ears::ear_at, crate::specs::Ears::last_ear, crate::specs::Ears::up_to, crate::specs::Ears::ears_of, crate::specs::Ears::ring_fault, crate::specs::Ears::ears_answer))]
+#![tactic(auto, using(crate::proofs::Laws::Gather::any_next, crate::proofs::Laws::Gather::any_none, crate::proofs::Laws::Gather::any_some, crate::proofs::Laws::Gather::least_at, crate::proofs::Laws::Gather::least_none, crate::proofs::Laws::Ears::before_first, crate::proofs::Laws::Ears::before_rest), unfolding(crate::specs::Refusal::found, crate::specs::Refusal::told, crate::specs::Refusal::refuse, crate::specs::Refusal::judge, crate::specs::Refusal::number_of, crate::specs::Refusal::place_of, crate::specs::Refusal::leaves, crate::specs::Gather::any, crate::specs::Lists::longer, crate::specs::Lists::uneven, crate::specs::Ears::cross, crate::specs::Ears::inside, crate::specs::Ears::turns_left, crate::specs::Ears::blocks, crate::specs::Ears::ear_of, crate::specs::Ears::is_ear, crate::specs::Ears::first_ear, crate::specs::Ears::ear_at, crate::specs::Ears::last_ear, crate::specs::Ears::up_to, crate::specs::Ears::ears_of, crate::specs::Ears::ring_fault, crate::specs::Ears::ears_answer))]
 
 ghost use Rattle.std.specs.Prelude.{◌≡◌, ◌+◌, ◌-◌, ◌*◌, ◌/◌, ◌<◌, ◌≤◌, not, ◌&&◌, [], ◌∷◌, MatchOption, length, take, ◌==◌};
 ghost use Rattle.shape.specs.Gather.{any};
@@ -9,7 +9,7 @@ ghost use Rattle.shape.specs.Refusal.{told, leaves};
 ghost use Rattle.shape.specs.Ears.{before, after, at, cross, turns_left, inside, blocks, blocks_at, ear_of, first_ear, last_ear, without, cut_ears, up_to, ears_of, ears_answer};
 ghost use Rattle.shape.specs.EarSteps.{Within, Cut};
 
-use crate::lists::{MAX_RING, whole_point};
+use crate::lists::{MAX_RING, index_after, whole_point};
 use crate::memory::put;
 use crate::refusal::{Refusal, refuse_if};
 use vector::coords::Point;
@@ -51,19 +51,12 @@ fn is_inside(a: Point, b: Point, c: Point, p: Point) -> bool
 
 // ---- the points left, by their numbers in the ring
 
-// The positions before and after k in a closed ring of n.
+// The position before k on a closed ring of n: the last before the first.
 fn index_before(k: usize, n: usize) -> usize
     requires { k < n }
     ensures { (result ≡ before n k) × (result < n) }
 {
     if k == 0 { n - 1 } else { k - 1 }
-}
-
-fn index_after(k: usize, n: usize) -> usize
-    requires { k < n }
-    ensures { (result ≡ after n k) × (result < n) }
-{
-    if k + 1 == n { 0 } else { k + 1 }
 }
 
 impl Triangle<'_> {

@@ -73,8 +73,8 @@ pub(crate) struct Survey<'a> {
 // The part of a list from start to end.
 #[derive(Clone, Copy)]
 pub struct Run {
-    pub start: usize,
-    pub end: usize,
+    pub start: u32,
+    pub end: u32,
 }
 
 // A row of the grid: its height on the line, and its runs of the left and of the right heights.
@@ -127,11 +127,11 @@ pub struct Station {
 // Height n of a run, from the line outward.
 #[tactic(auto, using(crate::proofs::Heights::held, crate::proofs::Heights::short_run, crate::proofs::Heights::short_list))]
 fn side(xs: &[f64], run: Run, n: usize) -> Option<f64>
-    requires { (run.start < 2 ^ 32) × (n < 2 ^ 32) }
+    requires { n < 2 ^ 32 }
     ensures { result ≡ nth (part xs.now run) n }
 {
-    let k = run.start + n;
-    if k < run.end && k < xs.len() {
+    let k = run.start as usize + n;
+    if k < run.end as usize && k < xs.len() {
         Some(xs[k])
     } else {
         None
@@ -142,7 +142,7 @@ impl GridRow {
     // The height in column j - 2048, if the row has one there.
     #[tactic(auto, using(crate::proofs::Heights::left_line, crate::proofs::Heights::right_line), unfolding(crate::specs::Elevation::column_of))]
     fn at(self, heights: Heights, j: usize) -> Option<f64>
-        requires { (self.left.start < 2 ^ 32) × (self.right.start < 2 ^ 32) × (j < 2 ^ 32) }
+        requires { j < 2 ^ 32 }
         ensures { result ≡ column_of heights.entry.left.now heights.entry.right.now self (sub_ℕ j 2048) }
     {
         if j == 2048 {
@@ -157,7 +157,7 @@ impl GridRow {
     // The heights in columns j - 2049 to j - 2046.
     #[tactic(auto, using(crate::proofs::Squares::line_is))]
     fn line(self, heights: Heights, j: usize) -> Line
-        requires { (self.left.start < 2 ^ 32) × (self.right.start < 2 ^ 32) × (0 < j) × (j < 2 ^ 31) }
+        requires { (0 < j) × (j < 2 ^ 31) }
         ensures { result ≡ line_of (column_of heights.entry.left.now heights.entry.right.now self) (sub_ℕ j 2048) }
     {
         Line {
@@ -174,19 +174,19 @@ impl Heights<'_> {
     #[tactic(auto, unfolding(crate::specs::Elevation::row_of, crate::specs::Lists::word_of))]
     fn row(self, i: usize) -> GridRow
         requires { 6 * i + 5 < length self.rows.now }
-        ensures { (result ≡ row_of self.entry.rows.now i) × (result.left.start < 2 ^ 32) × (result.right.start < 2 ^ 32) }
+        ensures { result ≡ row_of self.entry.rows.now i }
     {
         let rows = self.rows;
         let at = 6 * i;
         GridRow {
             center: from_bits64(rows[at], rows[at + 1]),
             left: Run {
-                start: rows[at + 2] as usize,
-                end: rows[at + 3] as usize,
+                start: rows[at + 2],
+                end: rows[at + 3],
             },
             right: Run {
-                start: rows[at + 4] as usize,
-                end: rows[at + 5] as usize,
+                start: rows[at + 4],
+                end: rows[at + 5],
             },
         }
     }
@@ -288,30 +288,16 @@ fn entry(a: Patch, b: Patch, r: usize, c: usize) -> f64
 }
 
 // The product of two matrices.
-#[tactic(auto, unfolding(crate::specs::Elevation::mul_of, crate::specs::Gather::gather))]
 pub fn mul(a: Patch, b: Patch) -> Patch
     ensures { result ≡ mul_of a b }
 {
-    Patch {
-        m: [
-            entry(a, b, 0, 0),
-            entry(a, b, 0, 1),
-            entry(a, b, 0, 2),
-            entry(a, b, 0, 3),
-            entry(a, b, 1, 0),
-            entry(a, b, 1, 1),
-            entry(a, b, 1, 2),
-            entry(a, b, 1, 3),
-            entry(a, b, 2, 0),
-            entry(a, b, 2, 1),
-            entry(a, b, 2, 2),
-            entry(a, b, 2, 3),
-            entry(a, b, 3, 0),
-            entry(a, b, 3, 1),
-            entry(a, b, 3, 2),
-            entry(a, b, 3, 3),
-        ],
+    let mut m = [0.0; 16];
+    for r in 0..4 {
+        for c in 0..4 {
+            m[4 * r + c] = entry(a, b, r, c);
+        }
     }
+    Patch { m }
 }
 
 // The coefficients of the surface with the corners, slopes and twists f.
@@ -328,27 +314,13 @@ pub fn coefficients(f: Patch) -> Patch
 pub fn terms(p: Patch, x: f64, y: f64) -> f64
     ensures { result ≡ surface_of p x y }
 {
-    let a = p.m;
-    let x2 = x * x;
-    let x3 = x * x * x;
-    let y2 = y * y;
-    let y3 = y * y * y;
-    1.0 * a[0] * 1.0
-        + 1.0 * a[1] * y
-        + 1.0 * a[2] * y2
-        + 1.0 * a[3] * y3
-        + x * a[4] * 1.0
-        + x * a[5] * y
-        + x * a[6] * y2
-        + x * a[7] * y3
-        + x2 * a[8] * 1.0
-        + x2 * a[9] * y
-        + x2 * a[10] * y2
-        + x2 * a[11] * y3
-        + x3 * a[12] * 1.0
-        + x3 * a[13] * y
-        + x3 * a[14] * y2
-        + x3 * a[15] * y3
+    let xs = [1.0, x, x * x, x * x * x];
+    let ys = [1.0, y, y * y, y * y * y];
+    let mut sum = xs[0] * p.m[0] * ys[0];
+    for n in 1..16 {
+        sum += xs[n / 4] * p.m[n] * ys[n % 4];
+    }
+    sum
 }
 
 // The corners, slopes and twists of the square whose corners q and r hold, between the rows p and w.
@@ -512,15 +484,15 @@ impl GridFault {
 fn span(run: Run) -> usize
     ensures { result ≡ run.end - run.start }
 {
-    run.end.saturating_sub(run.start)
+    run.end.saturating_sub(run.start) as usize
 }
 
 // Is a run of a list of n sound, and within the limit? `last` is where the last one ended.
 #[tactic(auto, unfolding(crate::specs::ElevationSteps::odd_run))]
-fn in_order(run: Run, last: usize, n: usize) -> bool
+fn in_order(run: Run, last: u32, n: usize) -> bool
     ensures { result ≡ not (odd_run run last n) }
 {
-    run.start <= run.end && last <= run.start && run.end <= n && span(run) <= MAX_SIDE
+    run.start <= run.end && last <= run.start && run.end as usize <= n && span(run) <= MAX_SIDE
 }
 
 impl<'a> Heights<'a> {
@@ -529,8 +501,8 @@ impl<'a> Heights<'a> {
         ensures { let h = self.entry in result ≡ pass_of h.rows.now (length h.left.now) (length h.right.now) }
     {
         let mut most: usize = 0;
-        let mut last_left: usize = 0;
-        let mut last_right: usize = 0;
+        let mut last_left: u32 = 0;
+        let mut last_right: u32 = 0;
         let left = self.left.len();
         let right = self.right.len();
         for k in 0..self.rows.len() / 6 {

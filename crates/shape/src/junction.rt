@@ -9,7 +9,6 @@ ghost use Rattle.shape.specs.JunctionMesh.{
   longest_of,
   parts_of,
   ear_cut,
-  count,
   lattice,
   face_of,
   corner_coords,
@@ -46,7 +45,7 @@ pub struct Ear {
     pub a: Point,
     pub b: Point,
     pub c: Point,
-    pub n: usize,
+    pub n: u8,
 }
 
 // The grid of a junction, if it has one, with its lists, which are not faulty.
@@ -70,11 +69,11 @@ fn longest(a: Point, b: Point, c: Point) -> f32
 
 // Into how many parts each side is split, with points `step` apart.
 #[tactic(auto, using(crate::proofs::Laws::JunctionMesh::parts_few), unfolding(crate::specs::JunctionMesh::parts_of))]
-fn parts(a: Point, b: Point, c: Point, step: f64) -> usize
+fn parts(a: Point, b: Point, c: Point, step: f64) -> u8
     ensures { (result ≡ parts_of step a b c) × (result ≤ 64) }
 {
     let n = ceil(widen(longest(a, b, c)) / step);
-    count(clamp(n, 1.0, 64.0)) as usize
+    count(clamp(n, 1.0, 64.0)) as u8
 }
 
 // Ear k of a ring.
@@ -90,26 +89,18 @@ fn ear_at(ears: Picked, k: usize, step: f64) -> Ear
     Ear { a, b, c, n }
 }
 
-// A small count as a single.
-fn single(k: usize) -> f32
-    requires { k < 2 ^ 32 }
-    ensures { result ≡ count k }
-{
-    std::num::nearest_u32_to_f32(k as u32)
-}
-
 // Point (i, j) of an ear's lattice.
 #[tactic(auto, unfolding(crate::specs::JunctionMesh::lattice))]
 fn lattice_point(e: Ear, i: usize, j: usize) -> Point
-    requires { (e.n < 2 ^ 32) × (i < 2 ^ 32) × (j < 2 ^ 32) }
+    requires { (i ≤ e.n) × (j ≤ e.n) }
     ensures { result ≡ lattice e i j }
 {
     let a = e.a;
     let b = e.b;
     let c = e.c;
-    let n = single(e.n);
-    let u = single(i) / n;
-    let v = single(j) / n;
+    let n = e.n as f32;
+    let u = i as f32 / n;
+    let v = j as f32 / n;
     a + (b - a) * u + (c - a) * v
 }
 
@@ -145,7 +136,7 @@ fn count_vertices(ears: Picked, step: f64) -> usize
 {
     let mut total: usize = 0;
     for k in 0..ears.numbers.len() / 3 {
-        let n = ear_at(ears, k, step).n;
+        let n = ear_at(ears, k, step).n as usize;
         total += 3 * (n * n);
     }
     total
@@ -187,7 +178,7 @@ impl Relief<'_> {
     // Point (i, j) of an ear's lattice, at the grid's height where the grid reaches.
     #[tactic(auto, unfolding(crate::specs::JunctionMesh::lift_of))]
     fn lifted(self, e: Ear, i: usize, j: usize) -> Point
-        requires { (e.n < 2 ^ 32) × (i < 2 ^ 32) × (j < 2 ^ 32) }
+        requires { (i ≤ e.n) × (j ≤ e.n) }
         ensures { result ≡ raised_by self.entry (lattice e i j) }
     {
         let p = lattice_point(e, i, j);
@@ -212,13 +203,13 @@ fn put_row(
     from: usize,
 ) -> usize
     requires { let to = from + 18 * (e.n - i) in
-        (i < e.n) × (e.n ≤ 64) × (to ≤ length vertices.old + 9) × (to ≤ length normals.old + 9) }
+        (i < e.n) × (to ≤ length vertices.old + 9) × (to ≤ length normals.old + 9) }
     ensures vertices_put { let lift = raised_by relief.entry in
         Put vertices.old vertices.new from (row_of corner_coords (λ (x y : ℕ). lift (lattice e x y)) e.n i) result }
     ensures normals_put { let lift = raised_by relief.entry in
         Put normals.old normals.new from (row_of face_normals (λ (x y : ℕ). lift (lattice e x y)) e.n i) result }
 {
-    let n = e.n;
+    let n = e.n as usize;
     let mut at = from;
     let mut p = relief.lifted(e, i, 0);
     let mut q = relief.lifted(e, i + 1, 0);
@@ -242,12 +233,12 @@ fn put_split(
     normals: &mut [f32],
     from: usize,
 ) -> usize
-    requires { (e.n ≤ 64) × (from + 9 * (e.n * e.n) ≤ length vertices.old) × (from + 9 * (e.n * e.n) ≤ length normals.old) }
+    requires { (from + 9 * (e.n * e.n) ≤ length vertices.old) × (from + 9 * (e.n * e.n) ≤ length normals.old) }
     ensures vertices_put { Put vertices.old vertices.new from (ear_mesh corner_coords (raised_by relief.entry) e) result }
     ensures normals_put { Put normals.old normals.new from (ear_mesh face_normals (raised_by relief.entry) e) result }
 {
     let mut at = from;
-    for i in 0..e.n {
+    for i in 0..e.n as usize {
         at = put_row(relief, e, i, vertices, normals, at);
     }
     at

@@ -1,12 +1,13 @@
 // The outline of a junction: its boundary segments joined to one ring of points.
-ghost use Rattle.std.specs.Prelude.{IsTrue, MatchOption, MatchResult, ◌≡◌, ℕ, ◌+◌, ◌-◌, ◌*◌, ◌/◌, ◌^◌, ◌<◌, ◌≤◌, true, List, length, Float};
+ghost use Rattle.std.specs.Prelude.{None, is_none, unwrap_or, nat_eq, IsTrue, MatchOption, MatchResult, ◌≡◌, ℕ, ◌+◌, ◌-◌, ◌*◌, ◌/◌, ◌^◌, ◌<◌, ◌≤◌, true, false, List, length, Float};
 ghost use Rattle.std.specs.Float.Ieee.{lt, le};
 ghost use Rattle.rounding.specs.Extremes.{max_of};
 ghost use Rattle.rounding.specs.Hypot.{hypot_of};
 ghost use Rattle.rounding.specs.Numbers.{nought};
 ghost use Rattle.rounding.specs.Thresholds.{milli};
+ghost use Rattle.vector.specs.Single.{0f};
 ghost use Rattle.vector.specs.declared.coords.Point.{Point};
-ghost use Rattle.shape.specs.Memory.{Put};
+ghost use Rattle.std.proofs.lemmas.List.Edits.{sets};
 ghost use Rattle.shape.specs.Lists.{max_boundary_points, last_end};
 ghost use Rattle.shape.specs.Refusal.{found, fine};
 ghost use Rattle.shape.specs.Outline.{
@@ -19,7 +20,7 @@ ghost use Rattle.shape.specs.Outline.{
   solid,
   solids,
   segment_at,
-  last_of,
+  origin,
   is_new,
   added,
   extended,
@@ -30,7 +31,6 @@ ghost use Rattle.shape.specs.Outline.{
   turns_at,
   gap_at,
   closed_up,
-  next_on,
   side_at,
   area_of,
   reversed,
@@ -40,9 +40,9 @@ ghost use Rattle.shape.specs.Outline.{
   outline_fault,
   Outlines,
 };
-ghost use Rattle.shape.specs.OutlineSteps.{squares_between, rooted_of, Wide, Squares, Skips, Adds, Holds};
+ghost use Rattle.shape.specs.OutlineSteps.{squares_between, rooted_of, Wide, Squares, Skips, Adds, Holds, points_of, tip_of};
 
-use crate::lists::{MAX_BOUNDARY_POINTS, MAX_SEGMENTS, Records, point_at};
+use crate::lists::{MAX_BOUNDARY_POINTS, MAX_SEGMENTS, Records, index_after, point_at};
 use crate::memory::put;
 use crate::refusal::{Refusal, refuse_if};
 use rounding::compare::{hypot_above_milli, hypot_at_most_milli};
@@ -79,11 +79,11 @@ pub struct Outline {
     pub turned: bool,
 }
 
-// The ring so far: how many points it has, and the last of them.
+// The ring so far: how many points it has, and the last of them if it has any.
 #[derive(Clone, Copy)]
 struct RingSoFar {
     count: usize,
-    last: Point,
+    last: Option<Point>,
 }
 
 // The greatest gap so far, and a sum of squares whose root it is not below.
@@ -101,20 +101,25 @@ struct Joined {
     ring: RingSoFar,
     segments: usize,
     gap: Gap,
+    ghost begun: { is_none ring.last ≡ nat_eq segments 0 },
 }
 
 // The ring of no segments.
-const NOTHING: Joined = Joined {
-    ring: RingSoFar {
-        count: 0,
-        last: Point::ORIGIN,
-    },
-    segments: 0,
-    gap: Gap {
-        root: 0.0,
-        squares: 0.0,
-    },
-};
+fn nothing_joined() -> Joined
+    ensures { (result.ring ≡ record { count = 0; last = None }) × (result.segments ≡ 0) × (result.gap.root ≡ 0f) }
+{
+    Joined {
+        ring: RingSoFar {
+            count: 0,
+            last: None,
+        },
+        segments: 0,
+        gap: Gap {
+            root: 0.0,
+            squares: 0.0,
+        },
+    }
+}
 
 // How a segment is joined on: from its end or not, and the greatest gap with it.
 #[derive(Clone, Copy)]
@@ -330,51 +335,58 @@ impl<'a> Checked<'a> {
             (k < length ws / 2) × (length (solid ws (k + 1)) ≡ j.segments + 1) × (s.now ≡ segment_at ws self.points.now j.segments) }
         ensures { let ws = self.entry.segments.words.now in
             let xs = self.entry.points.now in
-            (result.back ≡ turns_at ws xs j.segments j.ring.last)
-            × (result.gap.root ≡ gap_at ws xs j.segments j.ring.last j.gap.root) }
+            let end = unwrap_or j.ring.last origin in
+            (result.back ≡ turns_at ws xs j.segments end) × (result.gap.root ≡ gap_at ws xs j.segments end j.gap.root) }
     {
-        if j.segments == 0 {
-            return Turn {
+        match j.ring.last {
+            Some(end) => turn_later(end, j.gap, s),
+            None => Turn {
                 back: self.first_turns(s, k),
                 gap: j.gap,
-            };
+            },
         }
-        turn_later(j.ring.last, j.gap, s)
     }
 }
 
 // ---- joining
 
 // Is a point the first of all, or more than 1e-3 from the last?
-fn is_new(h: RingSoFar, p: Point) -> bool
-    ensures { (ring : List Point) → h.count ≡ length ring → h.last ≡ last_of ring → result ≡ is_new ring p }
+#[tactic(auto, using(crate::proofs::Joining::first_new, crate::proofs::Joining::later_new))]
+fn is_new(last: Option<Point>, p: Point) -> bool
+    ensures { (ring : List Point) → last ≡ tip_of ring → result ≡ is_new ring p }
 {
-    h.count == 0 || apart(p, h.last)
+    match last {
+        Some(q) => apart(p, q),
+        None => true,
+    }
 }
 
 // A point, if it is new.
 fn add_point(line: &mut [f32], h: RingSoFar, p: Point) -> RingSoFar
     requires { 3 * h.count + 3 ≤ length line.old }
-    ensures { ((blank : List Float) (ring : List Point) → Holds blank line.old ring h → Holds blank line.new (added ring p) result) × (result.count ≤ h.count + 1) }
+    ensures holds { (blank : List Float) (ring : List Point) → Holds blank line.old ring h → Holds blank line.new (added ring p) result }
+    ensures count { result.count ≤ h.count + 1 }
+    ensures some { is_none result.last ≡ false }
 {
-    if is_new(h, p) {
+    if is_new(h.last, p) {
         put(line, 3 * h.count, [p.x, p.y, p.z]);
         return RingSoFar {
             count: h.count + 1,
-            last: p,
+            last: Some(p),
         };
     }
     h
 }
 
-// The points of a segment, from its start or its end.
+// The points of a segment, of which there are some, from its start or its end.
 fn append(s: &[f32], back: bool, line: &mut [f32], from: RingSoFar) -> RingSoFar
-    requires { (3 * (from.count + length s.now / 3) ≤ length line.old) × (length s.now ≤ 3 * max_boundary_points) }
-    ensures { let xs = s.now in
-        ((blank : List Float) (ring : List Point) →
+    requires { (3 * (from.count + length s.now / 3) ≤ length line.old) × (3 ≤ length s.now) × (length s.now ≤ 3 * max_boundary_points) }
+    ensures holds { let xs = s.now in
+        (blank : List Float) (ring : List Point) →
         Holds blank line.old ring from →
-        Holds blank line.new (extended ring back xs (length xs / 3)) result)
-        × (result.count ≤ from.count + length xs / 3) }
+        Holds blank line.new (extended ring back xs (length xs / 3)) result }
+    ensures count { result.count ≤ from.count + length s.now / 3 }
+    ensures some { is_none result.last ≡ false }
 {
     let n = s.len() / 3;
     let mut h = from;
@@ -418,7 +430,7 @@ impl Checked<'_> {
             let xs = self.entry.points.now in
             Joins ws xs line.old line.new (length ws / 2) result × (3 * result.ring.count ≤ length xs) }
     {
-        let mut j = NOTHING;
+        let mut j = nothing_joined();
         for k in 0..self.segments.len() {
             j = self.join_step(line, j, k);
         }
@@ -432,7 +444,7 @@ impl Checked<'_> {
 #[tactic(auto, using(crate::proofs::Joining::one_less, crate::proofs::Joining::all_far, crate::proofs::Joining::all_few))]
 fn open_count(ring: &[f32]) -> usize
     requires { length ring.now < 2 ^ 60 }
-    ensures { ((line : List Point) → ring.now ≡ flat line → result ≡ length (closed_up line)) × (result ≤ length ring.now / 3) }
+    ensures { (result ≡ length (closed_up (points_of ring.now))) × (result ≤ length ring.now / 3) }
 {
     let n = ring.len() / 3;
     if 1 < n && meets(first_point(ring), final_point(ring)) {
@@ -441,29 +453,20 @@ fn open_count(ring: &[f32]) -> usize
     n
 }
 
-// The place after i on a ring of n: the first after the last.
-#[tactic(auto, unfolding(crate::specs::Outline::next_on))]
-fn next_on(n: usize, i: usize) -> usize
-    requires { i < 2 ^ 60 }
-    ensures { (result ≡ next_on n i) × (result ≤ 2 ^ 60) }
-{
-    if i + 1 == n { 0 } else { i + 1 }
-}
-
 // Side i of a ring of n: from point i to the next.
 fn side_at(ring: &[f32], n: usize, i: usize) -> f32
     requires { (i < 2 ^ 60) × (n ≡ length ring.now / 3) }
-    ensures { (line : List Point) → ring.now ≡ flat line → result ≡ side_at line i }
+    ensures { result ≡ side_at (points_of ring.now) i }
 {
     let a = point_at(ring, i);
-    let b = point_at(ring, next_on(n, i));
+    let b = point_at(ring, index_after(i, n));
     a.x * b.y - b.x * a.y
 }
 
 // Twice the area that a ring encloses: above 0 where it runs counter-clockwise.
 fn signed_area(ring: &[f32]) -> f32
     requires { length ring.now < 2 ^ 60 }
-    ensures { (line : List Point) → ring.now ≡ flat line → result ≡ area_of line }
+    ensures { result ≡ area_of (points_of ring.now) }
 {
     let n = ring.len() / 3;
     let mut area = side_at(ring, n, 0);
@@ -474,17 +477,15 @@ fn signed_area(ring: &[f32]) -> f32
 }
 
 // The points of a ring, from the front or from the back.
-fn put_ring(ring: &[f32], back: bool, out: &mut [f32]) -> usize
+fn put_ring(ring: &[f32], back: bool, out: &mut [f32])
     requires { length ring.now ≤ length out.old }
-    ensures { (line : List Point) → ring.now ≡ flat line → Put out.old out.new 0 (flat (reversed back line)) result }
+    ensures { out.new ≡ sets out.old 0 (flat (reversed back (points_of ring.now))) }
 {
     let n = ring.len() / 3;
-    let mut q: usize = 0;
     for i in 0..n {
         let p = point_at(ring, place(back, n, i));
-        q = put(out, q, [p.x, p.y, p.z]);
+        put(out, 3 * i, [p.x, p.y, p.z]);
     }
-    q
 }
 
 // The answer for a ring that was joined with the greatest gap given.
@@ -492,7 +493,7 @@ fn finish(ring: &[f32], gap: f32, dropped: usize, out: &mut [f32]) -> Result<Out
     requires { length ring.now < 2 ^ 60 }
     ensures { (ws : List ℕ) (xs : List Float) →
         outline_fault ws xs ≡ fine →
-        ring.now ≡ flat (whole_line ws xs).ring →
+        points_of ring.now ≡ (whole_line ws xs).ring →
         gap ≡ (whole_line ws xs).gap →
         dropped ≡ dropped_of ws →
         Outlines ws xs out.old out.new result }

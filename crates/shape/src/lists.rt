@@ -1,13 +1,16 @@
 // Lists as they are lent: flat lists of coordinates and banks, lists of records, and the runs that
 // records have of other lists. The accessors take any place, so that what stands above them needs no
 // proof about indices; the checks of lists stand here alone.
-#![tactic(auto, using(crate::proofs::Laws::Lists::word_inside, crate::proofs::Laws::Gather::any_next, crate::proofs::Laws::Lists::get_d_any, crate::proofs::Laws::Lists::part_cut, crate::proofs::Laws::Lists::last_end_lem, crate::proofs::Laws::Lists::without_difference), unfolding(crate::specs::Refusal::found, crate::specs::Refusal::refuse, crate::specs::Refusal::number_of, crate::specs::Refusal::place_of, crate::specs::Refusal::or_else, crate::specs::Gather::any, crate::specs::Lists::word_of, crate::specs::Lists::last_end, crate::specs::Lists::run_bad, crate::specs::Lists::run_long, crate::specs::Lists::point_at, crate::specs::Lists::vector_at, crate::specs::Lists::longer, crate::specs::Lists::uneven, crate::specs::Lists::mesh_limits, crate::specs::Lists::mesh_ragged, crate::specs::Lists::mesh_fault, vector::specs::Coords::zero_vector))]
+#![tactic(auto, using(crate::proofs::Laws::Lists::word_inside, crate::proofs::Laws::Gather::any_next, crate::proofs::Laws::Lists::get_d_any, crate::proofs::Laws::Lists::part_cut, crate::proofs::Laws::Lists::last_end_lem, crate::proofs::Laws::Lists::without_difference), unfolding(crate::specs::Refusal::found, crate::specs::Refusal::refuse, crate::specs::Refusal::number_of, crate::specs::Refusal::place_of, crate::specs::Refusal::or_else, crate::specs::Gather::any, crate::specs::Lists::word_of, crate::specs::Lists::last_end, crate::specs::Lists::run_bad, crate::specs::Lists::run_long, crate::specs::Lists::point_at, crate::specs::Lists::vector_at, crate::specs::Lists::longer, crate::specs::Lists::uneven, crate::specs::Lists::mesh_limits, crate::specs::Lists::mesh_ragged, crate::specs::Lists::mesh_fault, crate::specs::MeshMemory::result_limits, vector::specs::Coords::zero_vector))]
 
 ghost use Rattle.std.specs.Prelude.{◌≡◌, ◌+◌, ◌-◌, ◌*◌, ◌/◌, ◌%◌, ◌^◌, ◌<◌, min, not, ◌&&◌, ◌||◌, length, slice_index, slice_index_or, slice_range};
 ghost use Rattle.shape.specs.Gather.{any};
 ghost use Rattle.shape.specs.Refusal.{found};
+ghost use Rattle.shape.specs.Ears.{after};
+ghost use Rattle.shape.specs.Outline.{next_on};
 ghost use Rattle.shape.specs.Lists.{span_words, vertices_word, indices_word, word_of, last_end, run_bad, run_long, point_at, vector_at, lists_of, mesh_limits, mesh_ragged, mesh_fault};
 
+use crate::memory::Lengths;
 use crate::refusal::{Refusal, refuse_if};
 use vector::coords::{Point, Vector};
 
@@ -106,6 +109,18 @@ pub fn single_or(xs: &[f32], i: usize, other: f32) -> f32
     ensures { result ≡ slice_index_or xs.now i other }
 {
     if i < xs.len() { xs[i] } else { other }
+}
+
+// ---- positions
+
+// The position after i on a closed ring of n: the first after the last.
+#[tactic(auto, using(crate::proofs::Laws::Ears::after_last, crate::proofs::Laws::Ears::after_rest), unfolding(crate::specs::Outline::next_on))]
+pub(crate) fn index_after(i: usize, n: usize) -> usize
+    requires { i < 2 ^ 61 }
+    ensures next { result ≡ next_on n i }
+    ensures on_ring { i < n → (result ≡ after n i) × (result < n) }
+{
+    if i + 1 == n { 0 } else { i + 1 }
 }
 
 // ---- parts
@@ -245,26 +260,31 @@ fn runs_rise(spans: &[u32], n: usize, k: usize) -> bool
 }
 
 impl Mesh<'_> {
+    // How many whole vertices there are.
+    pub fn points(self) -> usize
+        ensures { result ≡ length self.entry.vertices.now / 3 }
+    {
+        self.vertices.len() / 3
+    }
+
+    // How many triangles of three indices there are.
+    pub fn triangles(self) -> usize
+        ensures { result ≡ length self.entry.indices.now / 3 }
+    {
+        self.indices.len() / 3
+    }
+
     // Which list is past its limit, if any is.
     pub fn limits(self) -> Result<(), Refusal>
         ensures { found result ≡ mesh_limits (lists_of self.entry) }
     {
-        refuse_if(
-            3 * MAX_VERTICES < self.vertices.len(),
-            Refusal::Oversize(MAX_VERTICES),
-        )?;
-        refuse_if(
-            3 * MAX_VERTICES < self.normals.len(),
-            Refusal::Oversize(MAX_VERTICES),
-        )?;
-        refuse_if(
-            MAX_INDICES < self.indices.len(),
-            Refusal::Oversize(MAX_INDICES),
-        )?;
-        refuse_if(
-            SPAN_WORDS * MAX_SPANS < self.spans.len(),
-            Refusal::Oversize(MAX_SPANS),
-        )
+        Lengths {
+            vertices: self.vertices.len(),
+            normals: self.normals.len(),
+            indices: self.indices.len(),
+            spans: self.spans.len(),
+        }
+        .limits()
     }
 
     // Which list is ragged, if any is, where the mesh's lists stand in the call from `first` on.
@@ -275,7 +295,7 @@ impl Mesh<'_> {
         refuse_if(self.vertices.len() % 3 != 0, Refusal::Ragged(p))?;
         refuse_if(self.normals.len() % 3 != 0, Refusal::Ragged(p + 1))?;
         refuse_if(self.spans.len() % SPAN_WORDS != 0, Refusal::Ragged(p + 3))?;
-        let rise = runs_rise(self.spans, self.vertices.len() / 3, self.indices.len());
+        let rise = runs_rise(self.spans, self.points(), self.indices.len());
         refuse_if(!rise, Refusal::Ragged(p + 3))
     }
 

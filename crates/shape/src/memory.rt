@@ -18,23 +18,25 @@ pub(crate) struct Lengths {
     pub spans: usize,
 }
 
-// A result past its limits.
-fn result_limits(made: Lengths) -> Result<(), Refusal>
-    ensures { found result ≡ result_limits made }
-{
-    refuse_if(
-        3 * MAX_VERTICES < made.vertices,
-        Refusal::Oversize(MAX_VERTICES),
-    )?;
-    refuse_if(
-        3 * MAX_VERTICES < made.normals,
-        Refusal::Oversize(MAX_VERTICES),
-    )?;
-    refuse_if(MAX_INDICES < made.indices, Refusal::Oversize(MAX_INDICES))?;
-    refuse_if(
-        SPAN_WORDS * MAX_SPANS < made.spans,
-        Refusal::Oversize(MAX_SPANS),
-    )
+impl Lengths {
+    // Which list would be past its limit, if any would: of a result, or of a mesh that is lent.
+    pub fn limits(self) -> Result<(), Refusal>
+        ensures { found result ≡ result_limits self }
+    {
+        refuse_if(
+            3 * MAX_VERTICES < self.vertices,
+            Refusal::Oversize(MAX_VERTICES),
+        )?;
+        refuse_if(
+            3 * MAX_VERTICES < self.normals,
+            Refusal::Oversize(MAX_VERTICES),
+        )?;
+        refuse_if(MAX_INDICES < self.indices, Refusal::Oversize(MAX_INDICES))?;
+        refuse_if(
+            SPAN_WORDS * MAX_SPANS < self.spans,
+            Refusal::Oversize(MAX_SPANS),
+        )
+    }
 }
 
 // Outputs too short for it.
@@ -60,7 +62,7 @@ fn result_short(made: Lengths, lent: Lengths) -> Result<(), Refusal>
 pub(crate) fn room_fault(made: Lengths, lent: Lengths) -> Result<(), Refusal>
     ensures { found result ≡ room_fault made lent }
 {
-    result_limits(made)?;
+    made.limits()?;
     result_short(made, lent)
 }
 

@@ -27,6 +27,13 @@ pub(crate) struct Lane<'a> {
     pub width: f32,
 }
 
+// A lane with the numbers of its points that are kept.
+#[derive(Clone, Copy)]
+pub(crate) struct Course<'a> {
+    pub lane: Lane<'a>,
+    pub ks: &'a [u32],
+}
+
 // From one kept point to the next: the direction on the ground, and the square of the length.
 #[derive(Clone, Copy)]
 pub(crate) struct Leg {
@@ -56,12 +63,6 @@ pub(crate) struct Walk {
     pub out: Leg,
 }
 
-fn kept_point(points: &[f32], ks: &[u32], i: usize) -> Point
-    ensures { result ≡ kept_point points.now ks.now i }
-{
-    point_at(points, word_at(ks, i))
-}
-
 fn leg_between(a: Point, b: Point) -> Leg
     ensures { result ≡ leg_of a b }
 {
@@ -79,16 +80,6 @@ pub(crate) fn no_leg() -> Leg
         way: Vector::ZERO,
         square: 0.0,
     }
-}
-
-fn leg_out(points: &[f32], ks: &[u32], i: usize) -> Leg
-    requires { i < 2 ^ 61 }
-    ensures { result ≡ leg_out points.now ks.now i }
-{
-    if i + 1 < ks.len() {
-        return leg_between(kept_point(points, ks, i), kept_point(points, ks, i + 1));
-    }
-    no_leg()
 }
 
 // The direction halfway between the ways of the two legs.
@@ -212,22 +203,42 @@ fn spread_at(corner: bool, inc: Leg, out: Leg, left: Vector, h: f32) -> Spread
     }
 }
 
-impl Lane<'_> {
-    // Rib i over the kept points, with the legs into its point and out of it.
-    #[tactic(auto, unfolding(crate::specs::Strip::rib_at, vector::specs::Coords::up_vector))]
-    fn rib_at(self, ks: &[u32], i: usize, inc: Leg, out: Leg) -> Rib
-        requires { (i < 2 ^ 61) × (inc ≡ leg_in self.points.now ks.now i) × (out ≡ leg_out self.points.now ks.now i) }
-        ensures { result ≡ rib_at (lane_of self.entry) ks.now i }
+impl Course<'_> {
+    // Kept point i.
+    fn point(self, i: usize) -> Point
+        ensures { result ≡ kept_point self.entry.lane.points.now self.entry.ks.now i }
     {
-        let k = word_at(ks, i);
-        let p = kept_point(self.points, ks, i);
-        let way = along(self.tangents, k, inc.way, out.way);
+        point_at(self.lane.points, word_at(self.ks, i))
+    }
+
+    // The leg out of it.
+    fn leg_out(self, i: usize) -> Leg
+        requires { i < 2 ^ 61 }
+        ensures { result ≡ leg_out self.entry.lane.points.now self.entry.ks.now i }
+    {
+        if i + 1 < self.ks.len() {
+            return leg_between(self.point(i), self.point(i + 1));
+        }
+        no_leg()
+    }
+
+    // Its rib, with the legs into it and out of it.
+    #[tactic(auto, unfolding(crate::specs::Strip::rib_at, vector::specs::Coords::up_vector))]
+    fn rib_at(self, i: usize, inc: Leg, out: Leg) -> Rib
+        requires { let ps = self.lane.points.now in
+            (i < 2 ^ 61) × (inc ≡ leg_in ps self.ks.now i) × (out ≡ leg_out ps self.ks.now i) }
+        ensures { result ≡ rib_at (lane_of self.entry.lane) self.entry.ks.now i }
+    {
+        let lane = self.lane;
+        let k = word_at(self.ks, i);
+        let p = self.point(i);
+        let way = along(lane.tangents, k, inc.way, out.way);
         let left = left_normal(way);
-        let across = lateral(self.banks, k, left, way);
-        let corner = (0 < i) & (i + 1 < ks.len());
-        let m = spread_at(corner, inc, out, left, half_at(self.widths, k, self.width));
-        let a = kept_point(self.points, ks, i.saturating_sub(1));
-        let b = kept_point(self.points, ks, (i + 1).min(ks.len().saturating_sub(1)));
+        let across = lateral(lane.banks, k, left, way);
+        let corner = (0 < i) & (i + 1 < self.ks.len());
+        let m = spread_at(corner, inc, out, left, half_at(lane.widths, k, lane.width));
+        let a = self.point(i.saturating_sub(1));
+        let b = self.point((i + 1).min(self.ks.len().saturating_sub(1)));
         Rib {
             left: p + across * m.left,
             right: p - across * m.right,
@@ -236,12 +247,12 @@ impl Lane<'_> {
     }
 
     // The same with the leg out of its point worked out.
-    pub(crate) fn walk_at(self, ks: &[u32], i: usize, inc: Leg) -> Walk
-        requires { (i < 2 ^ 61) × (inc ≡ leg_in self.points.now ks.now i) }
-        ensures { result ≡ walk_at (lane_of self.entry) ks.now i }
+    pub(crate) fn walk_at(self, i: usize, inc: Leg) -> Walk
+        requires { (i < 2 ^ 61) × (inc ≡ leg_in self.lane.points.now self.ks.now i) }
+        ensures { result ≡ walk_at (lane_of self.entry.lane) self.entry.ks.now i }
     {
-        let out = leg_out(self.points, ks, i);
-        let rib = self.rib_at(ks, i, inc, out);
+        let out = self.leg_out(i);
+        let rib = self.rib_at(i, inc, out);
         Walk { rib, out }
     }
 }

@@ -7,9 +7,9 @@ ghost use Rattle.shape.specs.Strip.{lane_of, six_of, ups_of, no_area, triangle_o
 ghost use Rattle.shape.specs.SurfaceMesh.{span_of};
 ghost use Rattle.shape.specs.MeshSteps.{lengths_at, Grown, Room, Wrote};
 
-use crate::lists::SPAN_WORDS;
+use crate::lists::{MAX_LANE_POINTS, SPAN_WORDS};
 use crate::memory::{Lengths, put};
-use crate::rib::{Lane, Rib, no_leg};
+use crate::rib::{Course, Lane, Rib, no_leg};
 use crate::weld::weld;
 use vector::coords::Point;
 
@@ -73,15 +73,15 @@ fn count_segment(a: Rib, b: Rib) -> usize
 }
 
 // How many indices a strip has, wherever its vertices start.
-fn count_indices(lane: Lane, ks: &[u32]) -> usize
-    requires { length ks.now ≤ max_lane_points }
-    ensures by_index { (v : ℕ) → result ≡ length (indices_of v (lane_of lane.entry) ks.now) }
+fn count_indices(course: Course) -> usize
+    requires { length course.ks.now ≤ max_lane_points }
+    ensures by_index { (v : ℕ) → result ≡ length (indices_of v (lane_of course.entry.lane) course.entry.ks.now) }
     ensures upper_bound { result ≤ 24576 }
 {
     let mut q: usize = 0;
-    let mut w = lane.walk_at(ks, 0, no_leg());
-    for i in 1..ks.len() {
-        let next = lane.walk_at(ks, i, w.out);
+    let mut w = course.walk_at(0, no_leg());
+    for i in 1..course.ks.len() {
+        let next = course.walk_at(i, w.out);
         q += count_segment(w.rib, next.rib);
         w = next;
     }
@@ -121,29 +121,28 @@ impl From<At> for Lengths {
 // The strip over the kept points, of which there are some, from `at` on. Each rib serves the segment
 // before it and the segment after it.
 fn put_ribs(
-    lane: Lane,
-    ks: &[u32],
+    course: Course,
     vertices: &mut [f32],
     normals: &mut [f32],
     indices: &mut [u32],
     at: At,
 ) -> At
-    requires room { let n = length ks.now in
+    requires room { let n = length course.ks.now in
         (0 < n) × (at.floats + 6 * n ≤ length vertices.old) × (at.floats + 6 * n ≤ length normals.old)
         × (at.floats / 3 + 2 * n < 4294967290) }
-    requires ks_in_bounds { at.index + length (indices_of (at.floats / 3) (lane_of lane) ks.now) ≤ length indices.old }
-    ensures { let l = lane_of lane.entry in
-        let k = ks.now in
+    requires ks_in_bounds { at.index + length (indices_of (at.floats / 3) (lane_of course.lane) course.ks.now) ≤ length indices.old }
+    ensures { let l = lane_of course.entry.lane in
+        let k = course.entry.ks.now in
         (Put vertices.old vertices.new at.floats (vertices_of l k) result.floats)
         × (Put normals.old normals.new at.floats (normals_of l k) result.floats)
         × (Put indices.old indices.new at.index (indices_of (at.floats / 3) l k) result.index) }
 {
     let v = at.floats / 3;
-    let mut w = lane.walk_at(ks, 0, no_leg());
+    let mut w = course.walk_at(0, no_leg());
     let mut q = at.floats;
     let mut j = at.index;
-    for i in 1..ks.len() {
-        let next = lane.walk_at(ks, i, w.out);
+    for i in 1..course.ks.len() {
+        let next = course.walk_at(i, w.out);
         q = put_rib(vertices, normals, q, w.rib);
         j = put_segment(indices, j, v + 2 * (i - 1), w.rib, next.rib);
         w = next;
@@ -170,16 +169,15 @@ fn put_span(out: &mut [u32], at: usize, id: usize, v: usize, w: usize, i: usize,
 }
 
 // The sizes with one more lane. `kept` is room to work in.
-pub(crate) fn size_strip(lane: Lane, kept: &mut [u32], at: At) -> At
-    requires { (length lane.points.now / 3 ≤ max_lane_points) × (length kept.old ≡ max_lane_points) × (at.floats < 2 ^ 60) × (at.index < 2 ^ 60) × (at.word < 2 ^ 60) }
+pub(crate) fn size_strip(lane: Lane, kept: &mut [u32; MAX_LANE_POINTS], at: At) -> At
+    requires { (length lane.points.now / 3 ≤ max_lane_points) × (at.floats < 2 ^ 60) × (at.index < 2 ^ 60) × (at.word < 2 ^ 60) }
     ensures { Grown (lane_of lane.entry) at result }
 {
-    let n = weld(lane.points, kept);
-    let ks = &kept[..n];
-    let m = count_indices(lane, ks);
+    let course = weld(lane, kept);
+    let n = course.ks.len();
     At {
         floats: at.floats + 6 * n,
-        index: at.index + m,
+        index: at.index + count_indices(course),
         word: at.word + span_size(n),
     }
 }
@@ -188,26 +186,25 @@ pub(crate) fn size_strip(lane: Lane, kept: &mut [u32], at: At) -> At
 pub(crate) fn put_strip(
     lane: Lane,
     id: usize,
-    kept: &mut [u32],
+    kept: &mut [u32; MAX_LANE_POINTS],
     at: At,
     vertices: &mut [f32],
     normals: &mut [f32],
     indices: &mut [u32],
     spans: &mut [u32],
 ) -> At
-    requires points_len_bound { (length lane.points.now / 3 ≤ max_lane_points) × (id < 2 ^ 32) × (length kept.old ≡ max_lane_points) }
+    requires points_len_bound { (length lane.points.now / 3 ≤ max_lane_points) × (id < 2 ^ 32) }
     requires room { Room (lane_of lane) at vertices.old normals.old indices.old spans.old }
     ensures { let l = lane_of lane.entry in
         Wrote l id at result
         vertices.old vertices.new normals.old normals.new
         indices.old indices.new spans.old spans.new }
 {
-    let n = weld(lane.points, kept);
-    if n == 0 {
+    let course = weld(lane, kept);
+    if course.ks.is_empty() {
         return at;
     }
-    let ks = &kept[..n];
-    let to = put_ribs(lane, ks, vertices, normals, indices, at);
+    let to = put_ribs(course, vertices, normals, indices, at);
     let word = put_span(
         spans,
         at.word,

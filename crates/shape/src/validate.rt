@@ -47,11 +47,11 @@ fn every_finite(xs: &[f32]) -> bool
 
 // The first vertex that is not finite.
 #[tactic(auto, using(crate::proofs::Laws::Gather::any_next, crate::proofs::Laws::Gather::least_found, crate::proofs::Laws::Gather::least_past), unfolding(crate::specs::Gather::any, crate::specs::Verdict::unsound))]
-fn search_unsound(vertices: &[f32]) -> Option<usize>
-    ensures { IsFirst (unsound vertices.now) (length vertices.now / 3) result }
+fn search_unsound(mesh: Mesh) -> Option<usize>
+    ensures { let vs = mesh.entry.vertices.now in IsFirst (unsound vs) (length vs / 3) result }
 {
-    for i in 0..vertices.len() / 3 {
-        if !point_at(vertices, i).is_finite() {
+    for i in 0..mesh.points() {
+        if !point_at(mesh.vertices, i).is_finite() {
             return Some(i);
         }
     }
@@ -60,27 +60,28 @@ fn search_unsound(vertices: &[f32]) -> Option<usize>
 
 // The same. In most meshes all are finite, which takes no search to see.
 #[tactic(auto, using(crate::proofs::Laws::Gather::least_none, crate::proofs::Verdicts::finite_sound))]
-fn first_unsound(vertices: &[f32]) -> Option<usize>
-    ensures { IsFirst (unsound vertices.now) (length vertices.now / 3) result }
+fn first_unsound(mesh: Mesh) -> Option<usize>
+    ensures { let vs = mesh.entry.vertices.now in IsFirst (unsound vs) (length vs / 3) result }
 {
-    if every_finite(vertices) {
+    if every_finite(mesh.vertices) {
         return None;
     }
-    search_unsound(vertices)
+    search_unsound(mesh)
 }
 
 // What is wrong with triangle t, if anything is. The last may have fewer than three corners: a bad index of
 // it counts before that.
-fn examine(vertices: &[f32], indices: &[u32], t: usize) -> Result<(), Flaw>
-    requires { 3 * t < length indices.now }
-    ensures { result ≡ finding_of vertices.now indices.now t }
+fn examine(mesh: Mesh, t: usize) -> Result<(), Flaw>
+    requires { 3 * t < length mesh.indices.now }
+    ensures { result ≡ finding_of mesh.entry.vertices.now mesh.entry.indices.now t }
 {
-    let n = vertices.len() / 3;
+    let indices = mesh.indices;
+    let n = mesh.points();
     let at = 3 * t;
     let a = corner(indices, at, n)?;
     let b = corner(indices, at + 1, n)?;
     let c = corner(indices, at + 2, n)?;
-    flat_or_fine(vertices, a, b, c)
+    flat_or_fine(mesh.vertices, a, b, c)
 }
 
 // The corner at a place of the indices, of n vertices: there may be no index, and it may be past them.
@@ -118,15 +119,16 @@ fn no_area_at(vertices: &[f32], a: usize, b: usize, c: usize) -> bool
     )
 }
 
-// Is something wrong with triangle t, which has three indices, in a mesh of n vertices?
-fn whole_faulty(vertices: &[f32], indices: &[u32], n: usize, t: usize) -> bool
-    requires { (n ≡ length vertices.now / 3) × (3 * t + 2 < length indices.now) }
-    ensures { result ≡ faulty_at vertices.now indices.now t }
+// Is something wrong with triangle t, which has three indices?
+fn whole_faulty(mesh: Mesh, t: usize) -> bool
+    requires { 3 * t + 2 < length mesh.indices.now }
+    ensures { result ≡ faulty_at mesh.entry.vertices.now mesh.entry.indices.now t }
 {
+    let n = mesh.points();
     let at = 3 * t;
-    let a = indices[at] as usize;
-    let b = indices[at + 1] as usize;
-    let c = indices[at + 2] as usize;
+    let a = mesh.indices[at] as usize;
+    let b = mesh.indices[at + 1] as usize;
+    let c = mesh.indices[at + 2] as usize;
     if n <= a {
         return true;
     }
@@ -142,22 +144,23 @@ fn whole_faulty(vertices: &[f32], indices: &[u32], n: usize, t: usize) -> bool
     if b == c {
         return true;
     }
-    a == c || no_area_at(vertices, a, b, c)
+    a == c || no_area_at(mesh.vertices, a, b, c)
 }
 
 // The first triangle with something wrong. A short last one has something wrong in any case.
+// A function of its own, since behind the refusals the compiler would take its loop for one that is seldom reached.
+#[inline(never)]
 #[tactic(auto, using(crate::proofs::Laws::Gather::any_next, crate::proofs::Laws::Gather::least_found, crate::proofs::Verdicts::first_short), unfolding(crate::specs::Gather::any))]
-fn first_faulty(vertices: &[f32], indices: &[u32]) -> Option<usize>
-    ensures { IsFirst (faulty_at vertices.now indices.now) (triples_of indices.now) result }
+fn first_faulty(mesh: Mesh) -> Option<usize>
+    ensures { let is = mesh.entry.indices.now in IsFirst (faulty_at mesh.entry.vertices.now is) (triples_of is) result }
 {
-    let n = vertices.len() / 3;
-    let m = indices.len() / 3;
+    let m = mesh.triangles();
     for t in 0..m {
-        if whole_faulty(vertices, indices, n, t) {
+        if whole_faulty(mesh, t) {
             return Some(t);
         }
     }
-    let short = indices.len() % 3 != 0;
+    let short = mesh.indices.len() % 3 != 0;
     short.then_some(m)
 }
 
@@ -172,32 +175,35 @@ fn error_of(t: usize, flaw: Flaw, n: usize) -> MeshError
 }
 
 // The verdict on sound lists that have indices and whose vertices are finite.
-fn of_triangles(vertices: &[f32], indices: &[u32]) -> Result<(), MeshError>
-    ensures { verdict_of result ≡ of_triangles vertices.now indices.now }
+fn of_triangles(mesh: Mesh) -> Result<(), MeshError>
+    ensures { verdict_of result ≡ of_triangles mesh.entry.vertices.now mesh.entry.indices.now }
 {
-    let Some(t) = first_faulty(vertices, indices) else {
+    let Some(t) = first_faulty(mesh) else {
         return Ok(());
     };
-    examine(vertices, indices, t).map_err(|flaw| error_of(t, flaw, vertices.len() / 3))
+    let n = mesh.points();
+    examine(mesh, t).map_err(|flaw| error_of(t, flaw, n))
 }
 
 // The verdict on sound lists.
-fn of_lists(vertices: &[f32], indices: &[u32]) -> Result<(), MeshError>
-    ensures { verdict_of result ≡ validity_of vertices.now indices.now }
+fn of_lists(mesh: Mesh) -> Result<(), MeshError>
+    ensures { verdict_of result ≡ validity_of mesh.entry.vertices.now mesh.entry.indices.now }
 {
-    if indices.is_empty() {
+    if mesh.indices.is_empty() {
         return Err(MeshError::Empty);
     }
-    if let Some(v) = first_unsound(vertices) {
+    if let Some(v) = first_unsound(mesh) {
         return Err(MeshError::NonFiniteVertex(v));
     }
-    of_triangles(vertices, indices)
+    of_triangles(mesh)
 }
 
-// The verdict on a mesh in lent lists: what is wrong with it, the first finding in the order of document 01.
-pub fn validate(mesh: Mesh) -> Result<Result<(), MeshError>, Refusal>
-    ensures { let m = lists_of mesh.entry in read_verdict result ≡ judge (mesh_fault m) (taken (validity_of m.vertices m.indices)) }
-{
-    mesh.check()?;
-    Ok(of_lists(mesh.vertices, mesh.indices))
+impl Mesh<'_> {
+    // The verdict on a mesh in lent lists: what is wrong with it, the first finding in the order of document 01.
+    pub fn validate(self) -> Result<Result<(), MeshError>, Refusal>
+        ensures { let m = lists_of self.entry in read_verdict result ≡ judge (mesh_fault m) (taken (validity_of m.vertices m.indices)) }
+    {
+        self.check()?;
+        Ok(of_lists(self))
+    }
 }

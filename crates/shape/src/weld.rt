@@ -13,8 +13,9 @@ ghost use Rattle.shape.specs.Memory.{Put};
 ghost use Rattle.shape.specs.Lists.{max_lane_points};
 ghost use Rattle.shape.specs.Strip.{step_of, keeps_step, keeps, end_kept, kept_of};
 
-use crate::lists::point_at;
+use crate::lists::{MAX_LANE_POINTS, point_at};
 use crate::memory::put;
+use crate::rib::{Course, Lane};
 use rounding::compare::root_above_tenth;
 use rounding::extremes::max;
 use rounding::root::sqrt32;
@@ -100,8 +101,8 @@ fn ends_meet(points: &[f32], e: usize) -> bool
 // ends where the next begins and no seam opens. A lane welded down to one point has both its ends, as one
 // thin quad, if they are apart; a lane of no length has no surface.
 #[tactic(auto, unfolding(crate::specs::Strip::end_kept))]
-fn weld_end(points: &[f32], kept: &mut [u32], m: usize, e: usize) -> usize
-    requires { (m < max_lane_points) × (length kept.old ≡ max_lane_points) × (e < 2 ^ 32) }
+fn weld_end(points: &[f32], kept: &mut [u32; MAX_LANE_POINTS], m: usize, e: usize) -> usize
+    requires { (m < max_lane_points) × (e < 2 ^ 32) }
     ensures put { Put kept.old kept.new m (end_kept m (lt (step_of points.now 0 e) micro) e) result }
     ensures upper_bound { result ≤ max_lane_points }
 {
@@ -114,15 +115,16 @@ fn weld_end(points: &[f32], kept: &mut [u32], m: usize, e: usize) -> usize
     put(kept, m, [e as u32])
 }
 
-// The numbers of the points kept, written into `kept`, and how many they are.
-pub(crate) fn weld(points: &[f32], kept: &mut [u32]) -> usize
-    requires { (length points.now / 3 ≤ max_lane_points) × (length kept.old ≡ max_lane_points) }
-    ensures put { Put kept.old kept.new 0 (kept_of points.now (length points.now / 3)) result }
-    ensures upper_bound { result ≤ max_lane_points }
+// A lane with the points of it that are kept, whose numbers are written into `kept`.
+pub(crate) fn weld<'a>(lane: Lane<'a>, kept: &'a mut [u32; MAX_LANE_POINTS]) -> Course<'a>
+    requires { length lane.points.now / 3 ≤ max_lane_points }
+    ensures course { let ps = lane.entry.points.now in (result.lane ≡ lane.entry) × (result.ks.now ≡ kept_of ps (length ps / 3)) }
+    ensures few { length result.ks.now ≤ max_lane_points }
 {
+    let points = lane.points;
     let n = points.len() / 3;
     if n == 0 {
-        return 0;
+        return Course { lane, ks: &[] };
     }
     let mut h = Welding {
         count: 0,
@@ -132,5 +134,9 @@ pub(crate) fn weld(points: &[f32], kept: &mut [u32]) -> usize
     for i in 1..n {
         h = weld_step(points, kept, h, i);
     }
-    weld_end(points, kept, h.count, n - 1)
+    let m = weld_end(points, kept, h.count, n - 1);
+    Course {
+        lane,
+        ks: &kept[..m],
+    }
 }

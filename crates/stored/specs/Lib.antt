@@ -1,1 +1,5 @@
+pub mod Answers
+pub mod Cases
+pub mod Input
+pub mod Ops
 pub mod Words

@@ -1,13 +1,9 @@
 -- Lists of words as the contracts read them: total, and 0 past the end. Assumes nothing.
-use Rattle.std.specs.Prelude.{ℕ, ◌+◌, ◌*◌, ◌/◌, cond, List, length, nat_lt, slice_index, slice_set}
+use Rattle.std.specs.Prelude.{ℕ, ◌+◌, ◌*◌, ◌/◌, cond, List, length, nat_lt, slice_index}
 
 -- word i of a list
 abbrev pub get_word : List ℕ → ℕ → ℕ
 get_word xs i = slice_index xs i
-
--- the list with w for its word i
-abbrev pub set_word : List ℕ → ℕ → ℕ → List ℕ
-set_word xs i w = slice_set xs i w
 
 -- the word of four bytes from byte k on, the low byte first
 unfoldable pub four_bytes : List ℕ → ℕ → ℕ

@@ -1,5 +1,9 @@
 // The operations of the rounding layer over words. An operation's number is its place in the oracle's
 // list, and 100 and on are checks that the oracle has no operation for.
+ghost use Rattle.std.specs.Prelude.{◌≡◌, ◌↔◌, IsSome};
+ghost use Rattle.stored.specs.Cases.{IsRead};
+ghost use Rattle.stored.specs.Ops.{may_panic};
+
 use crate::answer::Answer;
 use crate::lent::Case;
 use crate::op::UnknownOp;
@@ -155,12 +159,16 @@ fn clamped<T: Binary>(x: T, lo: T, hi: T) -> Option<T> {
 
 impl RoundingOp {
     // Does the operation answer 0 first where Rust panics?
-    pub fn may_panic(self) -> bool {
+    pub fn may_panic(self) -> bool
+        ensures { result ≡ may_panic self }
+    {
         matches!(self, RoundingOp::Clamp32 | RoundingOp::Clamp64)
     }
 
     // Works the operation on a case. There is no answer where that has not as many words as the operation takes.
-    pub fn work(self, case: &mut Case, answer: &mut Answer) -> Option<()> {
+    pub fn work(self, case: &mut Case, answer: &mut Answer) -> Option<()>
+        ensures { IsSome result ↔ IsRead case.new }
+    {
         match self {
             RoundingOp::Sqrt32 => answer.single(sqrt32(case.single())),
             RoundingOp::Floor32 => answer.single(floor(case.single())),

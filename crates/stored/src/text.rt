@@ -1,8 +1,8 @@
-// The lines that are printed.
-use std::io;
+// What the lines that are printed tell.
+use std::fmt;
 use std::ops::Add;
 
-// The numbers that a line gives.
+// How many cases there are, and how many of them differ or are skipped.
 #[derive(Clone, Copy, Default)]
 pub struct Tally {
     pub cases: u64,
@@ -23,34 +23,46 @@ impl Add for Tally {
     }
 }
 
-fn counts(out: &impl Print, t: Tally) -> io::Result<()> {
-    let Tally {
-        cases,
-        differ,
-        skipped,
-    } = t;
-    print!(out; ": {cases} cases, {differ} differ")?;
-    if skipped > 0 {
-        print!(out; ", {skipped} skipped")?;
+impl fmt::Display for Tally {
+    fn fmt<W: fmt::Write>(&self, f: &mut fmt::Formatter<W>) -> fmt::Result {
+        write!(f, "{} cases, {} differ", self.cases, self.differ)?;
+        if self.skipped > 0 {
+            write!(f, ", {} skipped", self.skipped)?;
+        }
+        Ok(())
     }
-    Ok(())
 }
 
-// The line of one operation after its name. `first` is the number of the first case that differs, from 0.
-pub fn block_line(out: &impl Print, t: Tally, first: Option<u32>) -> io::Result<()> {
-    counts(out, t)?;
-    if let Some(first) = first {
-        print!(out; ", first case {first}")?;
-    }
-    println!(out; "")
+// One operation: its cases, and the number of the first that differs, from 0.
+#[derive(Clone, Copy, Default)]
+pub struct Block {
+    pub tally: Tally,
+    pub first: Option<u32>,
 }
 
-// The last line. `broken` says that the list broke off, or had a case too long, after `read` words.
-pub fn last_line(out: &impl Print, t: Tally, broken: bool, read: u64) -> io::Result<()> {
-    print!(out; "all")?;
-    counts(out, t)?;
-    if broken {
-        print!(out; ", broken at word {read}")?;
+impl fmt::Display for Block {
+    fn fmt<W: fmt::Write>(&self, f: &mut fmt::Formatter<W>) -> fmt::Result {
+        write!(f, "{}", self.tally)?;
+        if let Some(first) = self.first {
+            write!(f, ", first case {first}")?;
+        }
+        Ok(())
     }
-    println!(out; "")
+}
+
+// A list: its cases, and after how many words it broke off, or had a case too long, if it did.
+#[derive(Clone, Copy)]
+pub struct Total {
+    pub tally: Tally,
+    pub broken: Option<u64>,
+}
+
+impl fmt::Display for Total {
+    fn fmt<W: fmt::Write>(&self, f: &mut fmt::Formatter<W>) -> fmt::Result {
+        write!(f, "{}", self.tally)?;
+        if let Some(word) = self.broken {
+            write!(f, ", broken at word {word}")?;
+        }
+        Ok(())
+    }
 }

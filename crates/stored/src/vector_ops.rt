@@ -1,5 +1,8 @@
 // The operations of the vector layer over words. An operation's number is its place in the oracle's
 // list, and 200 and on are checks that the oracle has no operation for.
+ghost use Rattle.std.specs.Prelude.{◌↔◌, IsSome};
+ghost use Rattle.stored.specs.Cases.{IsRead};
+
 use crate::answer::Answer;
 use crate::lent::Case;
 use crate::op::UnknownOp;
@@ -89,7 +92,9 @@ impl fmt::Display for VectorOp {
 
 impl VectorOp {
     // Works the operation on a case. There is no answer where that has not as many words as the operation takes.
-    pub fn work(self, case: &mut Case, answer: &mut Answer) -> Option<()> {
+    pub fn work(self, case: &mut Case, answer: &mut Answer) -> Option<()>
+        ensures { IsSome result ↔ IsRead case.new }
+    {
         match self {
             VectorOp::Length => answer.single(case.vector().length()),
             VectorOp::Distance => answer.single(case.point().distance_to(case.point())),

@@ -2,12 +2,13 @@
 use Rattle.std.specs.Prelude.{◌≡◌, ℕ, zero, suc, ◌+◌, ◌*◌, ◌<◌, ◌≤◌, List, [], ◌∷◌, length, get_or, take, drop}
 use Rattle.std.specs.Simd.{first_chunks}
 use Rattle.std.specs.Int.{from_le_bytes}
-use Rattle.std.proofs.Common.{◌∙◌, ◌/◌, sym, refl, length-take, arith, w32, mul-zero, mul-suc, add-zero, add_comm, drop-drop, length-drop, get_or-drop}
+use Rattle.std.proofs.Common.{◌∙◌, ◌/◌, sym, refl, length-take, arith, w32, mul-zero, mul-suc, add-zero, add_comm, drop-drop, length-drop, get_or-drop, ext_get_or, ap}
+use Rattle.std.proofs.Math.ListN.{get_or-eq_default}
 use Rattle.std.specs.Array.{IsFromFnResultFrom}
 use Rattle.std.specs.Fn.{Called, Mut}
 use Rattle.std.proofs.Math.Decide.{dec_lt}
 use Rattle.surface.specs.File.{word_at, decode, file_record}
-use Rattle.surface.proofs.Laws.File.{gather_within, listed}
+use Rattle.surface.proofs.Laws.File.{decode_length, decode_at}
 
 -- array i of n elements
 pub chunk_at : {A : Type 0} (n c i : ℕ) (xs : List A) (d : List A) → i < c → get_or (first_chunks n c xs) i d ≡ take n (drop (n * i) xs)
@@ -24,12 +25,18 @@ front_four (a ∷ b ∷ c ∷ []) h = absurd (omega arith)
 front_four (a ∷ b ∷ c ∷ d ∷ xs) h = refl
 
 -- word i of bytes, by their arrays of four
-pub word_four : (bs : List ℕ) (i : ℕ) → 4 * i + 4 ≤ length bs → from_le_bytes w32 (get_or (first_chunks 4 (length bs / 4) bs) i []) ≡ word_at bs i
+word_four : (bs : List ℕ) (i : ℕ) → i < length bs / 4 → from_le_bytes w32 (get_or (first_chunks 4 (length bs / 4) bs) i []) ≡ word_at bs i
 unfolding word_at
 word_four bs i h =
-    let e = chunk_at 4 (length bs / 4) i bs [] (omega arith) in
+    let e = chunk_at 4 (length bs / 4) i bs [] h in
     let l : 4 ≤ length (drop (4 * i) bs) = omega (arith, length-drop (4 * i) bs) in
     rw (e, front_four (drop (4 * i) bs) l, get_or-drop, get_or-drop, get_or-drop, get_or-drop, add-zero) (omega arith)
+
+pub word_here : (bs : List ℕ) (i : ℕ) → i < length bs / 4 → from_le_bytes w32 (get_or (first_chunks 4 (length bs / 4) bs) i []) ≡ get_or (decode bs) i 0
+word_here bs i h = word_four bs i h ∙ sym (decode_at bs i h)
+
+pub word_past : (bs : List ℕ) (i : ℕ) → length bs / 4 ≤ i → 0 ≡ get_or (decode bs) i 0
+word_past bs i h = let l : length (decode bs) ≤ i = omega (arith, decode_length bs) in sym (get_or-eq_default (decode bs) 0 l)
 
 -- what calls of one closure made: h i of each number i, where P is kept from call to call
 pub from_fn_is : {F B : Type 0} {g : Mut F (ℕ × Unit {0}) B} (P : F → Type 0) (h : ℕ → B)
@@ -45,8 +52,9 @@ from_fn_is P h step ys (suc n) i f p r j l m d =
 
 -- the words of a record of a file, by its bytes
 pub record_words_are : (bs : List ℕ) (k : ℕ) {part r : List ℕ} → 32 * k + 32 ≤ length bs → part ≡ take 32 (drop (32 * k) bs) → length r ≡ 8
-    → ((j : ℕ) → j < 8 → get_or r j 0 ≡ word_at part j) → r ≡ file_record bs k
-unfolding file_record decode
+    → ((j : ℕ) → j < 8 → get_or r j 0 ≡ get_or (decode part) j 0) → r ≡ file_record bs k
+unfolding file_record
 record_words_are bs k {part} {r} h e l w =
     let n : length part ≡ 32 = rw e (simp (length-take, length-drop) (omega arith)) in
-    sym (listed r 8 l) ∙ gather_within (λ j. get_or r j 0 ∷ []) (λ j. word_at part j ∷ []) 8 (λ j m. rw (w j m)) ∙ rw (← e, n)
+    let m : length r ≡ length (decode part) = omega (arith, decode_length part) in
+    ext_get_or 0 r (decode part) m (λ j q. w j (omega arith)) ∙ ap decode e

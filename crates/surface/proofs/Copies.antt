@@ -30,10 +30,12 @@ module _ {A : Type 0} (f : ℕ → List A) (w : ℕ) where
         let s : w * (k + 1) ≡ w * k + w = rw add-one (mul-suc w k) in
         omega (arith, l.ends, put_length l.put)
 
-    pub filled_next : {m' : List A} {next' : ℕ} → length (f k) ≡ w → Put m m' next (f k) next' → Filled f w m₀ m' at (k + 1) next'
-    filled_next e p =
+    -- one turn more; the next place is given as a number of elements
+    pub filled_turn : {m' : List A} {next' n : ℕ} → length (f k) ≡ w → Put m m' next (f k) next' → n ≡ at + w * (k + 1) → Filled f w m₀ m' at (k + 1) n
+    filled_turn {m'} {next'} {n} e p d =
         let s : w * (k + 1) ≡ w * k + w = rw add-one (mul-suc w k) in
-        record { put = put_turn f k l.put p; ends = omega (arith, l.ends, p.ends, e) }
+        let t : next' ≡ n = omega (arith, l.ends, p.ends, e) in
+        record { put = rw t at (put_turn f k l.put p); ends = d }
 
     pub filled_all : (n end : ℕ) → k ≡ n → end ≡ at + w * n → Put m₀ m at (gather f n) end
     filled_all n end e h = let s : next ≡ end = rw (h, ← e) l.ends in rw (s, e) at l.put

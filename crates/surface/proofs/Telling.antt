@@ -30,7 +30,6 @@ use Rattle.surface.specs.Report.{mesh_in, index_in, given, sample_at, answered, 
 use Rattle.surface.specs.ReportSteps.{record_in, records_in, Asked, text_of, is_found, Tells, Totalled}
 use Rattle.surface.proofs.Laws.Held.{how_many_next}
 use Rattle.surface.proofs.Laws.Text.{found_size, none_size}
-use Rattle.surface.proofs.Laws.Report.{kind_most}
 use Rattle.surface.proofs.Chunks.{chunk_at}
 use Rattle.surface.proofs.Singles.{single_height, single_normal}
 
@@ -73,9 +72,6 @@ module _ {ws : List ℕ} {sizes : Sizes} {rs : List ℕ} (a : Asked ws sizes rs)
   pub asked_are : sizes.questions ≡ count_kind ws 3
   unfolding sizes_of
   asked_are = ap (λ (s : Sizes). s.questions) a.sized
-
-  pub asked_most : sizes.questions ≤ 2048
-  asked_most = omega (arith, asked_are, kind_most ws 3 a.few)
 
   pub asked_length : length rs ≡ record_words * sizes.questions
   asked_length = ap length a.records ∙ records_length ws ∙ ap (λ (n : ℕ). record_words * n) (sym asked_are)

@@ -3,6 +3,7 @@ pub mod File
 pub mod Kind
 pub mod FileSteps
 pub mod Held
+pub mod Lent
 pub mod Text
 pub mod Report
 pub mod ReportSteps

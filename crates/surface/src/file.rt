@@ -1,6 +1,6 @@
 // The surface file. A file is bytes and a held surface is words, eight to a record; both are judged by
 // one rule and are turned into each other, record by record.
-ghost use Rattle.std.specs.Prelude.{◌≡◌, not, ◌&&◌, ℕ, ◌+◌, ◌*◌, ◌/◌, ◌%◌, ◌≤◌, ◌<◌, eqb, List, [], length};
+ghost use Rattle.std.specs.Prelude.{◌≡◌, not, ◌&&◌, ℕ, ◌+◌, ◌*◌, ◌/◌, ◌%◌, ◌≤◌, ◌<◌, eqb, List, [], length, get_or};
 ghost use Rattle.shape.specs.Gather.{any};
 ghost use Rattle.shape.specs.Memory.{Put};
 ghost use Rattle.shape.specs.Refusal.{found, told, leaves};
@@ -8,7 +8,7 @@ ghost use Rattle.surface.specs.File.{
   Form,
   File,
   Held,
-  word_at,
+  decode,
   encode,
   kind_of,
   spare,
@@ -72,25 +72,27 @@ impl Kind {
 // The most records that a surface has.
 const RECORDS: usize = 2048;
 
-// Word i of the bytes, the low byte first.
-#[tactic(auto, using(crate::proofs::Chunks::word_four))]
+// Word i of the bytes, the low byte first, and 0 past their last whole word.
+#[tactic(auto, using(crate::proofs::Chunks::word_here, crate::proofs::Chunks::word_past))]
 pub(crate) fn word_at(bytes: &[u8], i: usize) -> u32
-    requires { 4 * i + 4 ≤ length bytes.now }
-    ensures { result ≡ word_at bytes.now i }
+    ensures { result ≡ get_or (decode bytes.now) i 0 }
 {
-    u32::from_le_bytes(bytes.as_chunks().0[i])
+    let (words, _) = bytes.as_chunks();
+    if i < words.len() {
+        u32::from_le_bytes(words[i])
+    } else {
+        0
+    }
 }
 
 // A record's bytes, from `at` of `bytes` on.
-fn put_file(bytes: &mut [u8], at: usize, r: Record) -> usize
+fn put_file(bytes: &mut [u8], at: usize, r: Record)
     requires { at + 32 ≤ length bytes.old }
-    ensures { Put bytes.old bytes.new at (encode r.words) result }
+    ensures { Put bytes.old bytes.new at (encode r.words) (at + 32) }
 {
-    let mut next = at;
-    for word in &r.words {
-        next = put(bytes, next, &word.to_le_bytes());
+    for (j, word) in r.words.iter().enumerate() {
+        put(bytes, at + 4 * j, &word.to_le_bytes());
     }
-    next
 }
 
 // ---- records one after another
@@ -275,9 +277,8 @@ fn copy_words(bytes: &[u8], held: &mut [u32])
     ensures { Put held.old held.new 0 (words_of bytes.now) (length bytes.now / 4) }
 {
     let file = FileBytes { bytes };
-    let mut at = 0;
     for k in 0..file.whole() {
-        at = put(held, at, &file.record(k).words);
+        put(held, 8 * k, &file.record(k).words);
     }
 }
 
@@ -287,9 +288,8 @@ fn copy_bytes(held: &[u32], bytes: &mut [u8])
     ensures { Put bytes.old bytes.new 0 (bytes_of held.now) (4 * length held.now) }
 {
     let surface = HeldWords { words: held };
-    let mut at = 0;
     for k in 0..surface.whole() {
-        at = put_file(bytes, at, surface.record(k));
+        put_file(bytes, 32 * k, surface.record(k));
     }
 }
 

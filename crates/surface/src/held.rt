@@ -39,22 +39,18 @@ pub struct Question {
 }
 
 // Word j of record k, 0 past the end.
-#[tactic(auto, using(crate::proofs::Laws::File::word_here, crate::proofs::Laws::File::word_past))]
+#[tactic(auto, using(crate::proofs::Laws::File::word_in))]
 fn word(bytes: &[u8], k: usize, j: usize) -> u32
     requires { (k < 2 ^ 40) × (j < 8) }
     ensures { result ≡ word_of 8 (words_of bytes.now) k j }
 {
-    let i = 8 * k + j;
-    if i < bytes.len() / 4 {
-        return word_at(bytes, i);
-    }
-    0
+    word_at(bytes, 8 * k + j)
 }
 
 // How many records are of this kind.
 #[tactic(auto, using(crate::proofs::Laws::File::words_length))]
 fn count_kind(bytes: &[u8], kind: Kind) -> usize
-    requires { length (words_of bytes.now) ≤ 16384 }
+    requires { length bytes.now ≤ 65536 }
     ensures { result ≡ count_kind (words_of bytes.now) (number kind) }
 {
     let mut found = 0;
@@ -75,10 +71,12 @@ pub(crate) struct Surface<'a> {
 }
 
 impl<'a> Surface<'a> {
+    ghost use Rattle.surface.specs.Lent.{words_in};
+
     // A file that has no more records than the most.
-    #[tactic(auto, using(crate::proofs::Laws::Report::kind_most), unfolding(crate::specs::Held::sizes_of, crate::specs::Kind::number))]
+    #[tactic(auto, using(crate::proofs::Laws::File::words_length, crate::proofs::Laws::Report::kind_most), unfolding(crate::specs::Held::sizes_of, crate::specs::Kind::number))]
     pub(crate) fn new(bytes: &'a [u8]) -> Surface<'a>
-        requires { length (words_of bytes.now) ≤ 16384 }
+        requires { length bytes.now ≤ 65536 }
         ensures { result.bytes.now ≡ bytes.now }
     {
         let sizes = Sizes {
@@ -93,7 +91,7 @@ impl<'a> Surface<'a> {
     #[tactic(auto, unfolding(crate::specs::Held::single_in))]
     fn single(self, k: usize, j: usize) -> f32
         requires { (k < 2 ^ 40) × (j < 8) }
-        ensures { result ≡ single_in (words_of self.entry.bytes.now) k j }
+        ensures { result ≡ single_in (words_in self.entry) k j }
     {
         from_bits32(word(self.bytes, k, j))
     }
@@ -103,16 +101,15 @@ impl<'a> Surface<'a> {
     // Three singles from word j of each vertex on, to the front of `out`.
     fn unpack_threes(self, j: usize, out: &mut [f32])
         requires { (j < 6) × (3 * self.sizes.vertices ≤ length out.old) }
-        ensures { let ws = words_of self.entry.bytes.now in Put out.old out.new 0 (gather (three_in ws j) (count_kind ws vertex_kind)) (3 * self.entry.sizes.vertices) }
+        ensures { let ws = words_in self.entry in Put out.old out.new 0 (gather (three_in ws j) (count_kind ws vertex_kind)) (3 * self.entry.sizes.vertices) }
     {
-        let mut at = 0;
         for k in 0..self.sizes.vertices {
             let three = [
                 self.single(k, j),
                 self.single(k, j + 1),
                 self.single(k, j + 2),
             ];
-            at = put(out, at, &three);
+            put(out, 3 * k, &three);
         }
     }
 
@@ -120,7 +117,7 @@ impl<'a> Surface<'a> {
     #[tactic(auto, unfolding(crate::specs::Held::vertices_in, crate::specs::Held::place_in))]
     pub(crate) fn unpack_vertices(self, out: &mut [f32])
         requires { 3 * self.sizes.vertices ≤ length out.old }
-        ensures { Put out.old out.new 0 (vertices_in (words_of self.entry.bytes.now)) (3 * self.entry.sizes.vertices) }
+        ensures { Put out.old out.new 0 (vertices_in (words_in self.entry)) (3 * self.entry.sizes.vertices) }
     {
         self.unpack_threes(PLACE, out)
     }
@@ -129,7 +126,7 @@ impl<'a> Surface<'a> {
     #[tactic(auto, unfolding(crate::specs::Held::normals_in, crate::specs::Held::normal_in))]
     pub(crate) fn unpack_normals(self, out: &mut [f32])
         requires { 3 * self.sizes.vertices ≤ length out.old }
-        ensures { Put out.old out.new 0 (normals_in (words_of self.entry.bytes.now)) (3 * self.entry.sizes.vertices) }
+        ensures { Put out.old out.new 0 (normals_in (words_in self.entry)) (3 * self.entry.sizes.vertices) }
     {
         self.unpack_threes(NORMAL, out)
     }
@@ -137,17 +134,16 @@ impl<'a> Surface<'a> {
     // The corners of all triangles, to the front of `out`.
     pub(crate) fn unpack_indices(self, out: &mut [u32])
         requires { 3 * self.sizes.triangles ≤ length out.old }
-        ensures { Put out.old out.new 0 (indices_in (words_of self.entry.bytes.now)) (3 * self.entry.sizes.triangles) }
+        ensures { Put out.old out.new 0 (indices_in (words_in self.entry)) (3 * self.entry.sizes.triangles) }
     {
         let first = self.sizes.vertices;
-        let mut at = 0;
         for t in 0..self.sizes.triangles {
             let corners = [
                 word(self.bytes, first + t, CORNERS),
                 word(self.bytes, first + t, CORNERS + 1),
                 word(self.bytes, first + t, CORNERS + 2),
             ];
-            at = put(out, at, &corners);
+            put(out, 3 * t, &corners);
         }
     }
 
@@ -157,7 +153,7 @@ impl<'a> Surface<'a> {
     #[tactic(auto, using(crate::proofs::Laws::Held::sized), unfolding(crate::specs::Held::lane_in, crate::specs::Held::triangle_record))]
     pub(crate) fn lane_of(self, t: usize) -> Option<u32>
         requires { t < 2 ^ 32 }
-        ensures { result ≡ lane_in (words_of self.entry.bytes.now) t }
+        ensures { result ≡ lane_in (words_in self.entry) t }
     {
         let id = word(self.bytes, self.sizes.vertices + t, LANE);
         if id == 0 { None } else { Some(id) }
@@ -167,7 +163,7 @@ impl<'a> Surface<'a> {
     #[tactic(auto, using(crate::proofs::Laws::Held::sized), unfolding(crate::specs::Held::question_at, crate::specs::Held::question_record))]
     pub(crate) fn question_at(self, k: usize) -> Question
         requires { k < 2 ^ 32 }
-        ensures { result ≡ question_at (words_of self.entry.bytes.now) k }
+        ensures { result ≡ question_at (words_in self.entry) k }
     {
         let record = self.sizes.vertices + self.sizes.triangles + k;
         Question {
@@ -179,12 +175,11 @@ impl<'a> Surface<'a> {
     // The points of all questions, in pairs, to the front of `out`.
     pub(crate) fn unpack_points(self, out: &mut [f32])
         requires { 2 * self.sizes.questions ≤ length out.old }
-        ensures { Put out.old out.new 0 (points_of (words_of self.entry.bytes.now)) (2 * self.entry.sizes.questions) }
+        ensures { Put out.old out.new 0 (points_of (words_in self.entry)) (2 * self.entry.sizes.questions) }
     {
-        let mut at = 0;
         for k in 0..self.sizes.questions {
             let q = self.question_at(k);
-            at = put(out, at, &[q.x, q.y]);
+            put(out, 2 * k, &[q.x, q.y]);
         }
     }
 }

@@ -7,7 +7,7 @@ ghost use Rattle.shape.specs.Lists.{lists_of};
 ghost use Rattle.shape.specs.Refusal.{leaves, taken, told, number_of, place_of};
 ghost use Rattle.lookup.specs.Index.{build_of};
 ghost use Rattle.lookup.specs.Batch.{record_words};
-ghost use Rattle.surface.specs.File.{words_of};
+ghost use Rattle.surface.specs.Lent.{words_in};
 ghost use Rattle.surface.specs.Held.{how_many, count_kind, points_of};
 ghost use Rattle.surface.specs.Text.{refused_line};
 ghost use Rattle.surface.specs.Report.{mesh_in, index_in, answered_at, lines_of, report_of, report_answer};
@@ -84,7 +84,7 @@ fn counted(totals: LineTotals, k: usize, line: Option<FoundLine>) -> LineTotals
 struct Answered<'a> {
     surface: Surface<'a>,
     records: &'a [u32],
-    ghost asked: { Asked (words_of surface.bytes.now) surface.sizes records.now },
+    ghost asked: { Asked (words_in surface) surface.sizes records.now },
     ghost whole: { length records.now ≡ record_words * surface.sizes.questions },
 }
 
@@ -92,7 +92,7 @@ impl Answered<'_> {
     // What the line of question k tells, by its record, if it has an answer.
     fn line_at(self, k: usize) -> Option<FoundLine>
         requires { k < self.surface.sizes.questions }
-        ensures { Tells (words_of self.entry.surface.bytes.now) k result }
+        ensures { Tells (words_in self.entry.surface) k result }
     {
         let [found, height, x, y, z, triangle, _, _] = self
             .records
@@ -117,7 +117,7 @@ impl Answered<'_> {
 
     // The lines of all questions.
     fn tally(self) -> LineTotals
-        ensures { Totalled (words_of self.entry.surface.bytes.now) result }
+        ensures { Totalled (words_in self.entry.surface) result }
     {
         let mut totals = LineTotals { size: 0, found: 0 };
         for k in 0..self.surface.sizes.questions {
@@ -128,9 +128,9 @@ impl Answered<'_> {
 
     // The lines of all questions, and the last line.
     fn put_lines(self, found: u32, out: &mut [u8]) -> usize
-        requires found_value { let ws = words_of self.surface.bytes.now in found ≡ how_many (answered_at ws) (count_kind ws 3) }
-        requires bytes_in_bounds { length (lines_of (words_of self.surface.bytes.now)) ≤ length out.old }
-        ensures { Put out.old out.new 0 (lines_of (words_of self.entry.surface.bytes.now)) result }
+        requires found_value { let ws = words_in self.surface in found ≡ how_many (answered_at ws) (count_kind ws 3) }
+        requires bytes_in_bounds { length (lines_of (words_in self.surface)) ≤ length out.old }
+        ensures { Put out.old out.new 0 (lines_of (words_in self.entry.surface)) result }
     {
         let n = self.surface.sizes.questions;
         let mut at = 0;
@@ -142,7 +142,7 @@ impl Answered<'_> {
 
     // The text. Its length is known before any of it is written.
     fn tell(self, text: &mut [u8]) -> Result<usize, Refusal>
-        ensures { Says (lines_of (words_of self.entry.surface.bytes.now)) text.old text.new result }
+        ensures { Says (lines_of (words_in self.entry.surface)) text.old text.new result }
     {
         let totals = self.tally();
         let last = PairLine::asked(self.surface.sizes.questions as u32, totals.found);
@@ -161,16 +161,16 @@ struct Unpacked<'a> {
     surface: Surface<'a>,
     mesh: Mesh<'a>,
     points: &'a [f32],
-    ghost meshed: { lists_of mesh ≡ mesh_in (words_of surface.bytes.now) },
-    ghost pointed: { points.now ≡ points_of (words_of surface.bytes.now) },
+    ghost meshed: { lists_of mesh ≡ mesh_in (words_in surface) },
+    ghost pointed: { points.now ≡ points_of (words_in surface) },
 }
 
 impl Unpacked<'_> {
     // The text, by an index that was built of the mesh: all questions are asked at once.
     fn tell_answers(self, index: &[u32], text: &mut [u8]) -> Result<usize, Refusal>
-        requires index_value { index.now ≡ index_in (words_of self.surface.bytes.now) }
-        requires bytes_value { build_of (mesh_in (words_of self.surface.bytes.now)) 16384 ≡ taken (length index.now) }
-        ensures { Says (lines_of (words_of self.entry.surface.bytes.now)) text.old text.new result }
+        requires index_value { index.now ≡ index_in (words_in self.surface) }
+        requires bytes_value { build_of (mesh_in (words_in self.surface)) 16384 ≡ taken (length index.now) }
+        ensures { Says (lines_of (words_in self.entry.surface)) text.old text.new result }
     {
         let mut records = [0u32; 2048 * RECORD_WORDS];
         // An index is never foreign to the mesh that it was built from (`all_taken`).
@@ -184,7 +184,7 @@ impl Unpacked<'_> {
 
     // The text: the index is built first.
     fn tell(self, text: &mut [u8]) -> Result<usize, Refusal>
-        ensures { Says (surface_text (words_of self.entry.surface.bytes.now)) text.old text.new result }
+        ensures { Says (surface_text (words_in self.entry.surface)) text.old text.new result }
     {
         let mut index = [0u32; 16384];
         match build(self.mesh, &mut index) {
@@ -197,7 +197,7 @@ impl Unpacked<'_> {
 // The text of a file that is sound.
 #[tactic(auto, using(crate::proofs::Reporting::put_part, shape::proofs::Laws::Memory::put_front), unfolding(crate::specs::Report::mesh_in))]
 fn tell_surface(surface: Surface, text: &mut [u8]) -> Result<usize, Refusal>
-    ensures { Says (surface_text (words_of surface.entry.bytes.now)) text.old text.new result }
+    ensures { Says (surface_text (words_in surface.entry)) text.old text.new result }
 {
     let mut vertices = [0.0f32; 6144];
     let mut normals = [0.0f32; 6144];

@@ -73,7 +73,7 @@ fn lookups(b: &Bench) {
         let spans = m.lanes.len();
         let mut record = [0; 8];
         b.pair(
-            &format!("indexed lookup, 1 point to a call, {n} triangles, {spans} spans"), q.len(), 0.7,
+            &format!("indexed lookup, 1 point to a call, {n} triangles, {spans} spans"), q.len(), 1.0,
             || q.iter().for_each(|&(x, y)| { black_box(black_box(&s).top_lane(black_box(x), black_box(y))); }),
             || q.iter().for_each(|&(x, y)| {
                 let _ = black_box(ours::top_into(black_box(&l), black_box(&w), black_box(x), black_box(y), black_box(&mut record)));

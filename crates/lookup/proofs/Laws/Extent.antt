@@ -1,6 +1,5 @@
 -- The extent of a mesh's boxes holds each of them, NaN bounds passed over; its bounds are singles; and the cell's side is at least 1e-3. Assumes nothing.
 use Rattle.std.specs.Prelude.{◌≡◌, ℕ, zero, suc, ◌/◌, ◌<◌, Bool, true, false, cond, ◌&&◌, T, List, length, pos, nat_lt, refl, Float, Option, Some, None}
-use Rattle.vector.specs.declared.coords.Point.{Point}
 use Rattle.std.proofs.Common.{sym, ap, ◌∙◌, subst, ⊎_elim, not-suc-le-zero, eq-or-lt_of_le, le_of_suc-le-suc, arith, ltb-true}
 use Rattle.std.specs.Float.{fin}
 use Rattle.std.specs.Float.Ieee.{binary32, fits, of_bits, eq, le}
@@ -9,6 +8,7 @@ use Rattle.rounding.specs.Extremes.{min_of, max_of}
 use Rattle.rounding.proofs.Laws.Order.{le_refl, le_trans, le_of_eq, le_num_left, le_num_right}
 use Rattle.rounding.specs.Numbers.{IsNum}
 use Rattle.rounding.proofs.Laws.Extremes.{Picks, min_picks, max_picks}
+use Rattle.lookup.specs.declared.mesh.Triangle.{Triangle}
 use Rattle.lookup.proofs.Laws.Column.{width_ge}
 use Rattle.lookup.specs.Column.{Width}
 use Rattle.rounding.proofs.Laws.Stored.{back, back_same}
@@ -114,8 +114,8 @@ box_fits : (vs : List Float) (is : List ℕ) (t : ℕ) → Fits (box_of vs is t)
 unfolding box_of grown_box
 box_fits vs is t = go (corners_of vs is t)
   where
-    go : (c : (Option (Point × Point × Point))) → Fits (grown_box c)
-    go (Some (a, b, c)) = grown_fit _
+    go : (c : Option Triangle) → Fits (grown_box c)
+    go (Some k) = grown_fit _
     go None = tt
 
 join_fits : (x y : (Option Aabb)) → Fits x → Fits y → Fits (join_of x y)
@@ -174,7 +174,7 @@ unfolding box_of corners_of grown_box present
 box_there vs is t b e = go (nat_lt t (triangles is)) refl e
   where
     go : (k : Bool) → nat_lt t (triangles is) ≡ k
-        → grown_box (cond (k && nat_lt (index_of is t 0) (length vs / 3) && nat_lt (index_of is t 1) (length vs / 3) && nat_lt (index_of is t 2) (length vs / 3)) (Some ((corner_of vs is t 0), (corner_of vs is t 1), (corner_of vs is t 2))) None) ≡ Some b
+        → grown_box (cond (k && nat_lt (index_of is t 0) (length vs / 3) && nat_lt (index_of is t 1) (length vs / 3) && nat_lt (index_of is t 2) (length vs / 3)) (Some (record { a = corner_of vs is t 0; b = corner_of vs is t 1; c = corner_of vs is t 2 })) None) ≡ Some b
         → t < triangles is
     go true p q = ltb-true t (triangles is) p
     go false p q = absurd (let z : ◌≡◌ {A = ℕ} 0 1 = cc in omega arith)

@@ -7,7 +7,7 @@ use borrow.Author.Tests.{ltb-false, ne_eqb, eqb-false}
 use Rattle.shape.specs.Refusal.{Fault, fine, fault, refuse, or_else, Answer, taken, refused, judge}
 use Rattle.lookup.specs.Consult.{word_at, sides, declares, head_fault, inside, cell_at, start_at, first_at, entry_fault, start_fault, nowhere, run_of, consult_of}
 use Rattle.shape.proofs.Laws.Refusal.{passed}
-use Rattle.lookup.proofs.Laws.Heads.{head_sided, cell_small}
+use Rattle.lookup.proofs.Laws.Heads.{head_passed, head_sided, cell_small}
 
 pub never : {A : Type 0} {a : A} {k p : ℕ} → taken a ≢ refused k p
 never e = let z : ◌≡◌ {A = ℕ} 0 1 = cc in omega arith
@@ -24,13 +24,8 @@ module _ (ws : List ℕ) where
       (ltb-false (start_at ws (suc c)) (start_at ws c) q.0, ltb-false (word_at ws 8) (start_at ws (suc c)) r.0)
 
   head_declared : (count : ℕ) → head_fault ws count ≡ fine → (word_at ws 1 ≢ 0) → 10 + word_at ws 1 * word_at ws 2 + word_at ws 8 ≤ length ws
-  unfolding head_fault declares
-  head_declared count e n =
-      let p = passed (nat_lt (length ws) 9) _ _ _ e in
-      let q = passed (not (word_at ws 0 == count)) _ _ _ p.1 in
-      let r = passed (not (sides (word_at ws 1) (word_at ws 2))) _ _ _ q.1 in
-      let s = passed (nat_lt (length ws) (declares ws)) _ _ _ r.1 in
-      rw (ne_eqb (word_at ws 1) 0 n) at (ltb-false (length ws) (declares ws) s.0)
+  unfolding declares
+  head_declared count e n = rw (ne_eqb (word_at ws 1) 0 n) at (head_passed ws count e).1
 
 -- ---- P holds of the number and place of a fault, or of a refusal, if it is one
 

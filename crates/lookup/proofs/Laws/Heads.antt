@@ -1,8 +1,9 @@
 -- What `consult` finds in any words: the tests of the head, the spot of a point, the entries of a run. Assumes nothing.
 use Rattle.std.specs.Prelude.{◌≡◌, ℕ, zero, suc, ◌+◌, ◌-◌, ◌*◌, ◌<◌, ◌≤◌, Bool, true, false, cond, not, ◌&&◌, ◌||◌, List, length, ◌==◌, ◌≢◌, nat_le, nat_lt, refl, Float, Some, None}
 use Rattle.std.proofs.Common.{sym, ap, ◌∙◌, ⊎_elim, mul-le-mul, eq-or-lt_of_le, le_of_suc-le-suc, arith}
-use borrow.Author.Tests.{lt-ltb, le-ltb, le-leb, lt-leb, eq-eqb, ne_eqb, leb-true, not-false}
+use borrow.Author.Tests.{lt-ltb, le-ltb, le-leb, lt-leb, eq-eqb, ne_eqb, leb-true, ltb-false, not-false}
 use Rattle.std.proofs.Math.Arith.{digits_lt}
+use Rattle.std.proofs.Math.Bool.{and-false}
 use Rattle.std.specs.Float.{binary32}
 use Rattle.std.specs.Float.Ieee.{le}
 use Rattle.lookup.specs.Column.{col}
@@ -29,19 +30,11 @@ sides_left a b e k = simp (eq-eqb a 0 e, ne_eqb b 0 k, lt-leb 1 a (omega arith))
 
 pub sides_low : (a b : ℕ) → (a ≢ 0) → b ≡ 0 → sides a b ≡ false
 unfolding sides
-sides_low a b e k = rw (ne_eqb a 0 e, lt-leb 1 b (omega arith)) (and_no (nat_le 1 a && nat_le a 1024))
-  where
-    and_no : (x : Bool) → (x && false) ≡ false
-    and_no true = refl
-    and_no false = refl
+sides_low a b e k = rw (ne_eqb a 0 e, lt-leb 1 b (omega arith)) (and-false (nat_le 1 a && nat_le a 1024))
 
 pub sides_tall : (a b : ℕ) → (a ≢ 0) → 1024 < b → sides a b ≡ false
 unfolding sides
-sides_tall a b e h = rw (ne_eqb a 0 e, le-leb 1 b (omega arith), lt-leb b 1024 h) (and_no (nat_le 1 a && nat_le a 1024))
-  where
-    and_no : (x : Bool) → (x && false) ≡ false
-    and_no true = refl
-    and_no false = refl
+sides_tall a b e h = rw (ne_eqb a 0 e, le-leb 1 b (omega arith), lt-leb b 1024 h) (and-false (nat_le 1 a && nat_le a 1024))
 
 pub sides_fine : (a b : ℕ) → (a ≢ 0) → a ≤ 1024 → (b ≢ 0) → b ≤ 1024 → sides a b ≡ true
 unfolding sides
@@ -206,13 +199,18 @@ sides_some a b n e =
     or_right : (a b : Bool) → a ≡ false → (a || b) ≡ true → b ≡ true
     or_right a b e h = rw e at h
 
-pub head_sided : (ws : List ℕ) (count : ℕ) → head_fault ws count ≡ fine → (word_at ws 1 ≢ 0) → Sided ws
+pub head_passed : (ws : List ℕ) (count : ℕ) → head_fault ws count ≡ fine → (sides (word_at ws 1) (word_at ws 2) ≡ true) × (declares ws ≤ length ws)
 unfolding head_fault
-head_sided ws count e n =
+head_passed ws count e =
     let p = passed (nat_lt (length ws) 9) _ _ _ e in
     let q = passed (not (word_at ws 0 == count)) _ _ _ p.1 in
     let r = passed (not (sides (word_at ws 1) (word_at ws 2))) _ _ _ q.1 in
-    let s = sides_some (word_at ws 1) (word_at ws 2) n (not-false (sides (word_at ws 1) (word_at ws 2)) r.0) in
+    let s = passed (nat_lt (length ws) (declares ws)) _ _ _ r.1 in
+    (not-false (sides (word_at ws 1) (word_at ws 2)) r.0, ltb-false (length ws) (declares ws) s.0)
+
+pub head_sided : (ws : List ℕ) (count : ℕ) → head_fault ws count ≡ fine → (word_at ws 1 ≢ 0) → Sided ws
+head_sided ws count e n =
+    let s = sides_some (word_at ws 1) (word_at ws 2) n (head_passed ws count e).0 in
     record { some_cols = s.0; few_cols = s.1; some_rows = s.2; few_rows = s.3 }
 
 module _ (ws : List ℕ) (count : ℕ) (x y : Float) where

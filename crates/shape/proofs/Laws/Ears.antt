@@ -127,14 +127,6 @@ moved_all l k n h fits =
     ∙ ap (λ (r : List ℕ). r ++ take j s) (sym (take-take k n l (omega arith)))
     ∙ ap (λ (r : List ℕ). take k (take n l) ++ r) (sym (drop_take (suc k) n l ∙ ap (λ (i : ℕ). take i s) g))
 
--- all of them at once
-pub moved_at_once : (l : List ℕ) {m : List ℕ} (k n : ℕ) → k < n → n ≤ length l → m ≡ paste l k (drop (k + 1) l) (n - (k + 1)) → take (n - 1) m ≡ without (take n l) k
-unfolding moved
-moved_at_once l k n h fits e =
-    let j : n - (k + 1) ≡ n - 1 - k = omega arith in
-    let f : k + 1 ≡ suc k = add-one k in
-    rw (e, j, f) (moved_all l k n h fits)
-
 -- ---- a copy of the front
 
 pub copied_next : (s d m : List ℕ) (i : ℕ) → m ≡ take i s ++ drop i d → i < length s → i < length d → slice_set m i (slice_index s i) ≡ take (i + 1) s ++ drop (i + 1) d

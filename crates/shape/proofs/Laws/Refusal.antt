@@ -2,7 +2,7 @@
 use Rattle.std.specs.Prelude.{◌≡◌, ℕ, Bool, true, false, ◌||◌, ◌≢◌, refl, Result, Ok, Err}
 use Rattle.std.proofs.Common.{sym, ap, ◌∙◌, arith}
 use Rattle.shape.specs.declared.refusal.Refusal.{Refusal}
-use Rattle.shape.specs.Refusal.{Fault, fine, fault, found, refuse, or_else, Answer, told, judge}
+use Rattle.shape.specs.Refusal.{Fault, fine, fault, found, refuse, or_else}
 
 pub never : {n p : ℕ} → fault n p ≢ fine
 never e = let z : ◌≡◌ {A = ℕ} 0 1 = cc in omega arith
@@ -70,12 +70,3 @@ stops_first r g e = rw (← e)
 pub goes_then : {f g a : Fault} → found (Ok tt) ≡ f → a ≡ g → a ≡ or_else f g
 unfolding found or_else
 goes_then e h = rw (← e) h
-
--- a call that a check turns back answers so, and else as it goes on
-pub told_back : {A : Type 0} (r : Refusal) {f : Fault} (a : Answer A) → found (Err r) ≡ f → told {A = A} (Err r) ≡ judge f a
-unfolding found told judge
-told_back r a e = rw (← e)
-
-pub told_on : {A : Type 0} {f : Fault} {a b : Answer A} → found (Ok tt) ≡ f → b ≡ a → b ≡ judge f a
-unfolding found judge
-told_on e h = rw (← e) h

@@ -274,13 +274,15 @@ pub bytes_length : (ws : List ℕ) → length (bytes_of ws) ≡ 4 * length ws
 bytes_length ws = rw (bytes_encode ws) (encode_length ws)
 
 -- word j of record k, which is 0 past the end
-pub word_here : (bs : List ℕ) (k j : ℕ) {r : ℕ} → 8 * k + j < length bs / 4 → r ≡ word_at bs (8 * k + j) → r ≡ word_of 8 (words_of bs) k j
+pub word_in : (bs : List ℕ) (k j : ℕ) → word_of 8 (words_of bs) k j ≡ get_or (decode bs) (8 * k + j) 0
 unfolding word_of
-word_here bs k j h e = rw (words_decode bs) (e ∙ sym (decode_at bs (8 * k + j) h))
+word_in bs k j = rw (words_decode bs)
+
+pub word_here : (bs : List ℕ) (k j : ℕ) {r : ℕ} → 8 * k + j < length bs / 4 → r ≡ word_at bs (8 * k + j) → r ≡ word_of 8 (words_of bs) k j
+word_here bs k j h e = e ∙ sym (word_in bs k j ∙ decode_at bs (8 * k + j) h)
 
 pub word_past : (bs : List ℕ) (k j : ℕ) → length bs / 4 ≤ 8 * k + j → 0 ≡ word_of 8 (words_of bs) k j
-unfolding word_of
-word_past bs k j h = let l : length (words_of bs) ≤ 8 * k + j = omega (arith, words_length bs) in sym (get_or-eq_default (words_of bs) 0 l)
+word_past bs k j h = let l : length (decode bs) ≤ 8 * k + j = omega (arith, decode_length bs) in sym (word_in bs k j ∙ get_or-eq_default (decode bs) 0 l)
 
 -- what is held of a file's bytes is words, and what is written of held words is bytes
 pub words_below : (bs : List ℕ) → Below 256 bs → Below (2 ^ 32) (words_of bs)

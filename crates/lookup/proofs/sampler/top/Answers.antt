@@ -11,4 +11,4 @@ pub returns-in_err-index : goal.returns-in_err-index
 unfolding read_sampled found
 returns-in_err-index c =
     let h : c.from_residual-in_err-index.result ≡ Err c.in_err-index.field-0.0 = search rules in
-    rw h (refuses (lists_of c.args.mesh) _ _ _ (sym c.in_ok-top_fault.ensures) (foreign_is _ _ c.open.ensures c.in_err-index.was _ _))
+    rw h (refuses (lists_of c.args.mesh) _ _ _ (sym c.in_ok-top_fault.ensures) (foreign_is _ _ (rw c.triangles.ensures at c.open.ensures) c.in_err-index.was _ _))

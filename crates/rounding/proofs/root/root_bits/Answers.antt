@@ -4,14 +4,11 @@ use lib.Bits.{bit_and}
 use lib.Ieee.{low}
 use Rattle.rounding.specs.Root.{root_of}
 use Rattle.rounding.specs.Steps.{Rooted}
-use Rattle.rounding.proofs.RootScaled.{Bounds, sized}
-use Rattle.rounding.proofs.Fields.{lead_is, digits_is, sqrt_low, sqrt_mid}
+use Rattle.rounding.proofs.RootScaled.{Bounds, sized, lead}
+use Rattle.rounding.proofs.Fields.{digits_is, sqrt_low, sqrt_mid}
 use Rattle.rounding.proofs.root.root_bits.Goals as goal
 
--- the leading digit's weight and the digits below it, as the code has them
-lead : (p e : ℕ) → Bounds p e → (1 * 2 ^ (p - 1)) % 2 ^ 64 ≡ 2 ^ (p - 1)
-lead p e k = lead_is p k.short k.two
-
+-- the digits below the leading one, as the code has them
 digits : (p e b : ℕ) → Bounds p e → bit_and b ((1 * 2 ^ (p - 1)) % 2 ^ 64 - 1) ≡ b % 2 ^ (p - 1)
 digits p e b k = digits_is p b k.short k.two
 

@@ -5,13 +5,9 @@ use lib.Bits.{bit_and, and_mask}
 use lib.Ieee.{Format, prec, emax, hid}
 use Rattle.rounding.specs.declared.whole.Way.{Way}
 use Rattle.rounding.specs.Steps.{Wholes, limit_of, addend_of}
-use Rattle.rounding.proofs.RootScaled.{Bounds, sized}
-use Rattle.rounding.proofs.Fields.{lead_is}
+use Rattle.rounding.proofs.RootScaled.{Bounds, sized, lead}
 use Rattle.rounding.proofs.Cut.{unchanged, cut, stays, rises, moves_at}
 use Rattle.rounding.proofs.whole.whole_bits.Goals as goal
-
-lead : (p e : ℕ) → Bounds p e → (1 * 2 ^ (p - 1)) % 2 ^ 64 ≡ 2 ^ (p - 1)
-lead p e k = lead_is p k.short k.two
 
 -- the number of digits below one
 abbrev below : ℕ → ℕ → ℕ → ℕ

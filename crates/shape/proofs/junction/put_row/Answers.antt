@@ -1,8 +1,7 @@
 -- `shape::junction::put_row` meets its contract: the pairs of triangles of the row so far, and then the last. Assumes nothing.
-use Rattle.std.proofs.Common.{◌≡◌, ℕ, ◌+◌, ◌-◌, arith}
-use Rattle.vector.specs.declared.coords.Point.{Point}
+use Rattle.std.proofs.Common.{◌≡◌, ◌+◌, ◌-◌, arith}
 use Rattle.shape.specs.Gather.{gather}
-use Rattle.shape.specs.JunctionMesh.{lattice, raised_by, corner_coords, face_normals}
+use Rattle.shape.specs.JunctionMesh.{corner_coords, face_normals}
 use Rattle.shape.proofs.Laws.Memory.{put_none, put_length}
 use Rattle.shape.proofs.Laws.JunctionMesh.{corners_nine, row_turn, row_end}
 use Rattle.shape.proofs.junction.put_row.Goals as goal
@@ -29,7 +28,6 @@ push-at-requires c =
 pub loop-j-preserved : goal.loop-j-preserved
 loop-j-preserved c =
     let a = c.args in
-    let A : ℕ → ℕ → Point = λ x y. raised_by a.relief (lattice a.e x y) in
     let l = c.loop-j in
     let v = l.invariant in
     let x = c.push-next.ensures in
@@ -39,11 +37,11 @@ loop-j-preserved c =
     let k = l.j - 1 in
     let e : l.j ≡ k + 1 = omega arith in
     let f : l.j + 1 - 1 ≡ k + 1 = omega arith in
-    let er : r.result ≡ A a.i (k + 1) = rw e at r.ensures in
-    let es : s.result ≡ A (a.i + 1) (k + 1) = rw e at s.ensures in
+    let er = rw e at r.ensures in
+    let es = rw e at s.ensures in
     rw f (record {
-      vs = row_turn corner_coords A a.e.n a.i k l.p l.q r.result v.isp v.isq er v.vs s.result es (omega arith) x.vertices_put y.vertices_put;
-      ns = row_turn face_normals A a.e.n a.i k l.p l.q r.result v.isp v.isq er v.ns s.result es (omega arith) x.normals_put y.normals_put;
+      vs = row_turn corner_coords _ a.e.n a.i k l.p l.q r.result v.isp v.isq er v.vs s.result es (omega arith) x.vertices_put y.vertices_put;
+      ns = row_turn face_normals _ a.e.n a.i k l.p l.q r.result v.isp v.isq er v.ns s.result es (omega arith) x.normals_put y.normals_put;
       isp = er;
       isq = es;
       here = omega
@@ -53,7 +51,6 @@ loop-j-preserved c =
 pub returns : goal.returns
 returns c =
     let a = c.args in
-    let A : ℕ → ℕ → Point = λ x y. raised_by a.relief (lattice a.e x y) in
     let l = c.loop-j in
     let v = l.invariant in
     let x = c.push.ensures in
@@ -61,8 +58,8 @@ returns c =
     let k = l.j - 1 in
     let e : a.e.n - a.i ≡ k + 1 = omega arith in
     let n : a.e.n ≡ a.i + k + 1 = omega arith in
-    let er : r.result ≡ A a.i (k + 1) = rw e at r.ensures in
+    let er = rw e at r.ensures in
     record {
-      vertices_put = row_end corner_coords A a.e.n a.i k l.p l.q r.result v.isp v.isq er v.vs n x.vertices_put;
-      normals_put = row_end face_normals A a.e.n a.i k l.p l.q r.result v.isp v.isq er v.ns n x.normals_put;
+      vertices_put = row_end corner_coords _ a.e.n a.i k l.p l.q r.result v.isp v.isq er v.vs n x.vertices_put;
+      normals_put = row_end face_normals _ a.e.n a.i k l.p l.q r.result v.isp v.isq er v.ns n x.normals_put;
     }

@@ -2,7 +2,7 @@
 use Rattle.std.proofs.Common.{◌≡◌, ℕ, ◌-◌, arith}
 use Rattle.vector.specs.declared.coords.Point.{Point}
 use Rattle.shape.specs.Gather.{gather}
-use Rattle.shape.specs.JunctionMesh.{lattice, raised_by, corner_coords, face_normals, row_of, split_of, ear_mesh}
+use Rattle.shape.specs.JunctionMesh.{lattice, raised_by, corner_coords, split_of, ear_mesh}
 use Rattle.shape.proofs.Laws.Memory.{put_none, put_length, put_turn}
 use Rattle.shape.proofs.Laws.JunctionMesh.{corners_nine, rows_length, square_room}
 use Rattle.shape.proofs.junction.put_split.Goals as goal
@@ -22,14 +22,9 @@ put_row-at-requires c =
 
 pub loop-i-preserved : goal.loop-i-preserved
 loop-i-preserved c =
-    let a = c.args in
-    let A : ℕ → ℕ → Point = λ x y. raised_by a.relief (lattice a.e x y) in
-    let l = c.loop-i in
+    let v = c.loop-i.invariant in
     let x = c.put_row-at.ensures in
-    record {
-      vs = put_turn (row_of corner_coords A a.e.n) l.i l.invariant.vs x.vertices_put;
-      ns = put_turn (row_of face_normals A a.e.n) l.i l.invariant.ns x.normals_put;
-    }
+    record { vs = put_turn _ c.loop-i.i v.vs x.vertices_put; ns = put_turn _ c.loop-i.i v.ns x.normals_put }
 
 pub returns : goal.returns
 unfolding ear_mesh split_of

@@ -20,20 +20,20 @@ pub walk_at-next-requires : goal.walk_at-next-requires
 unfolding walk_at
 walk_at-next-requires c =
     let i = c.loop-i.invariant in
-    rw i.next (omega arith, ap (λ (x : Walk). x.out) i.here ∙ leg_next c.args.lane.points.now c.args.ks.now i.k (omega arith))
+    rw i.next (omega arith, ap (λ (x : Walk). x.out) i.here ∙ leg_next c.args.course.lane.points.now c.args.course.ks.now i.k (omega arith))
 
 pub loop-i-preserved : goal.loop-i-preserved
 unfolding walk_at
 loop-i-preserved c =
     let a = c.args in
-    let l = lane_of a.lane in
+    let l = lane_of a.course.lane in
     let i = c.loop-i.invariant in
     let next = rw i.next at c.walk_at-next.ensures in
     record {
       k = i.k + 1;
       next = omega arith;
       sum = λ v. rw (
-        gather_next (indices_at v l a.ks.now) i.k,
+        gather_next (indices_at v l a.course.ks.now) i.k,
         length-append,
         ← (i.sum v),
         ← (ap (λ (x : Walk). x.rib) i.here),
@@ -49,5 +49,5 @@ pub returns-clause-by_index : goal.returns-clause-by_index
 unfolding indices_of
 returns-clause-by_index c =
     let i = c.loop-i.invariant in
-    let e : i.k ≡ length c.args.ks.now - 1 = omega (arith, i.most) in
+    let e : i.k ≡ length c.args.course.ks.now - 1 = omega (arith, i.most) in
     λ v. rw (← e) (i.sum v)

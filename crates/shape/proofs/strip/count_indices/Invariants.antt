@@ -15,4 +15,4 @@ pub record Inv (l : Lane) (ks : List ℕ) (w : Walk) (q i : ℕ) : Type 0 where
   pub few : q ≤ 6 * k
 
 abbrev pub invariant-loop-i : goal.invariant-loop-i
-invariant-loop-i l = Inv (lane_of l.lane) l.ks l.w l.q l.i
+invariant-loop-i l = Inv (lane_of l.course.lane) l.course.ks.now l.w l.q l.i

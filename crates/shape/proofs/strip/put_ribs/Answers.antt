@@ -2,7 +2,7 @@
 use Rattle.std.proofs.Common.{◌≡◌, ◌+◌, ◌-◌, ◌/◌, length, refl, ap, ◌∙◌, arith}
 use Rattle.shape.specs.declared.rib.Walk.{Walk}
 use Rattle.shape.specs.Gather.{gather}
-use Rattle.shape.specs.Strip.{lane_of, leg_in, six_of, vertices_at, normals_at, indices_at, vertices_of, normals_of, indices_of}
+use Rattle.shape.specs.Strip.{lane_of, leg_in, six_of, indices_at, vertices_of, normals_of, indices_of}
 use Rattle.shape.specs.MeshSteps.{walk_at}
 use Rattle.shape.proofs.Laws.Gather.{gather_fits}
 use Rattle.shape.proofs.Laws.Memory.{put_none, put_length, put_turn}
@@ -31,13 +31,13 @@ pub walk_at-next-requires : goal.walk_at-next-requires
 unfolding walk_at
 walk_at-next-requires c =
     let i = c.loop-i.invariant in
-    rw i.next (omega (arith, c.requires.room), ap (λ (x : Walk). x.out) i.here ∙ leg_next c.args.lane.points.now c.args.ks.now i.k (omega arith))
+    rw i.next (omega (arith, c.requires.room), ap (λ (x : Walk). x.out) i.here ∙ leg_next c.args.course.lane.points.now c.args.course.ks.now i.k (omega arith))
 
 pub put_segment-j-requires : goal.put_segment-j-requires
 unfolding indices_of walk_at
 put_segment-j-requires c =
     let a = c.args in
-    let l = lane_of a.lane in
+    let l = lane_of a.course.lane in
     let i = c.loop-i.invariant in
     let before : c.loop-i.i - 1 ≡ i.k = omega arith in
     rw (before, ap (λ (x : Walk). x.rib) i.here, ap (λ (x : Walk). x.rib) (rw i.next at c.walk_at-next.ensures)) (omega (
@@ -46,14 +46,14 @@ put_segment-j-requires c =
       c.requires.ks_in_bounds,
       put_length i.is,
       i.is.ends,
-      gather_fits (indices_at (a.at.floats / 3) l a.ks.now) i.k (length a.ks.now - 1) (omega arith),
+      gather_fits (indices_at (a.at.floats / 3) l a.course.ks.now) i.k (length a.course.ks.now - 1) (omega arith),
     ))
 
 pub loop-i-preserved : goal.loop-i-preserved
 unfolding walk_at six_of
 loop-i-preserved c =
     let a = c.args in
-    let l = lane_of a.lane in
+    let l = lane_of a.course.lane in
     let i = c.loop-i.invariant in
     let here = ap (λ (x : Walk). x.rib) i.here in
     let next = rw i.next at c.walk_at-next.ensures in
@@ -62,9 +62,9 @@ loop-i-preserved c =
     record {
       k = i.k + 1;
       next = omega arith;
-      vs = put_turn (vertices_at l a.ks.now) i.k i.vs (rw here at did.vertices_put);
-      ns = put_turn (normals_at l a.ks.now) i.k i.ns (rw here at did.normals_put);
-      is = put_turn (indices_at (a.at.floats / 3) l a.ks.now) i.k i.is (rw (before, here, ap (λ (x : Walk). x.rib) next) at c.put_segment-j.ensures);
+      vs = put_turn _ i.k i.vs (rw here at did.vertices_put);
+      ns = put_turn _ i.k i.ns (rw here at did.normals_put);
+      is = put_turn _ i.k i.is (rw (before, here, ap (λ (x : Walk). x.rib) next) at c.put_segment-j.ensures);
       here = next;
       at_q = omega (arith, did.vertices_put.ends, i.at_q);
     }
@@ -73,11 +73,11 @@ pub returns : goal.returns
 unfolding vertices_of normals_of indices_of walk_at
 returns c =
     let a = c.args in
-    let l = lane_of a.lane in
+    let l = lane_of a.course.lane in
     let i = c.loop-i.invariant in
     let here = ap (λ (x : Walk). x.rib) i.here in
-    let e : i.k + 1 ≡ length a.ks.now = omega (arith, c.requires.room, c.loop-i.auto) in
-    let f : i.k ≡ length a.ks.now - 1 = omega arith in
-    let vs = put_turn (vertices_at l a.ks.now) i.k i.vs (rw here at c.put_rib.ensures.vertices_put) in
-    let ns = put_turn (normals_at l a.ks.now) i.k i.ns (rw here at c.put_rib.ensures.normals_put) in
+    let e : i.k + 1 ≡ length a.course.ks.now = omega (arith, c.requires.room, c.loop-i.auto) in
+    let f : i.k ≡ length a.course.ks.now - 1 = omega arith in
+    let vs = put_turn _ i.k i.vs (rw here at c.put_rib.ensures.vertices_put) in
+    let ns = put_turn _ i.k i.ns (rw here at c.put_rib.ensures.normals_put) in
     (rw e at vs, rw e at ns, rw f at i.is)

@@ -20,4 +20,4 @@ pub record Inv (l : Lane) (ks : List ℕ) (v : ℕ) (at : At) (v₀ v₁ n₀ n�
 
 abbrev pub invariant-loop-i : goal.invariant-loop-i
 invariant-loop-i l =
-    Inv (lane_of l.lane) l.ks l.v l.at l.initial.vertices l.vertices l.initial.normals l.normals l.initial.indices l.indices l.w l.q l.j l.i
+    Inv (lane_of l.course.lane) l.course.ks.now l.v l.at l.initial.vertices l.vertices l.initial.normals l.normals l.initial.indices l.indices l.w l.q l.j l.i

@@ -6,9 +6,7 @@ use Rattle.shape.proofs.strip.size_strip.Goals as goal
 pub returns : goal.returns
 unfolding kept
 returns c =
-    let a = c.args in
-    let l = lane_of a.lane in
-    grow l a.kept.now c.weld-n.new.kept c.weld-n.result a.at c.count_indices-m.result
-    c.span_size.result c.weld-n.ensures.put c.weld-n.ensures.upper_bound c.requires.1
-    c.count_indices-m.ensures.by_index c.count_indices-m.ensures.upper_bound c.span_size.ensures.0
-    c.span_size.ensures.1
+    let i = c.count_indices.ensures in
+    let s = c.span_size.ensures in
+    grow (lane_of c.args.lane) c.args.at c.count_indices.result c.span_size.result c.weld-course.ensures.course.1 c.weld-course.ensures.few
+    (rw c.weld-course.ensures.course.0 at i.by_index) i.upper_bound s.0 s.1

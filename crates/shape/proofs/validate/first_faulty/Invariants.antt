@@ -5,4 +5,4 @@ use Rattle.shape.specs.Verdict.{faulty_at}
 use Rattle.shape.proofs.validate.first_faulty.Given as goal
 
 abbrev pub invariant-loop-t : goal.invariant-loop-t
-invariant-loop-t l = any (faulty_at l.vertices l.indices) l.t ≡ false
+invariant-loop-t l = any (faulty_at l.mesh.vertices.now l.mesh.indices.now) l.t ≡ false

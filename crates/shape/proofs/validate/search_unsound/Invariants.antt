@@ -5,4 +5,4 @@ use Rattle.shape.specs.Verdict.{unsound}
 use Rattle.shape.proofs.validate.search_unsound.Given as goal
 
 abbrev pub invariant-loop-i : goal.invariant-loop-i
-invariant-loop-i l = any (unsound l.vertices) l.i ≡ false
+invariant-loop-i l = any (unsound l.mesh.vertices.now) l.i ≡ false

@@ -1,5 +1,5 @@
 -- `shape::weld::weld` meets its contract: what `h` and `kept` hold is what `welded` says of the points 0 to i. Assumes nothing.
-use Rattle.std.proofs.Common.{◌≡◌, ℕ, zero, suc, ◌+◌, ◌-◌, ◌/◌, ◌≤◌, cond, List, [], ◌∷◌, length, refl, zero-add, arith, length-append}
+use Rattle.std.proofs.Common.{◌≡◌, ℕ, zero, suc, ◌+◌, ◌-◌, ◌/◌, ◌≤◌, cond, List, [], ◌∷◌, length, refl, zero-add, arith, length-append, length-take}
 use lib.Ieee.{Float, binary32, lt}
 use lib.Ieee as Ieee
 use Rattle.rounding.specs.Root.{sqrt_of}
@@ -7,7 +7,7 @@ use Rattle.rounding.specs.Thresholds.{micro}
 use Rattle.shape.specs.declared.weld.Welding.{Welding}
 use Rattle.shape.specs.Memory.{Put}
 use Rattle.shape.specs.Strip.{Weld, welded, weld_next, keeps, step_of, kept_of, end_kept}
-use Rattle.shape.proofs.Laws.Memory.{sets_append}
+use Rattle.shape.proofs.Laws.Memory.{sets_append, put_front}
 use Rattle.shape.proofs.Strips.{cond_few, cond_le}
 use Rattle.shape.proofs.weld.weld.Invariants.{Holds}
 use Rattle.shape.proofs.weld.weld.Goals as goal
@@ -43,9 +43,9 @@ module _ (ps : List Float) (k₀ k k' : List ℕ) (h : Welding) (i : ℕ) (hold 
         ends = rw (zero-add, length-append, ← hold.count) p.ends;
       }
 
-pub returns-then-n-eq0-clause-put : goal.returns-then-n-eq0-clause-put
+pub returns-then-n-eq0-clause-course : goal.returns-then-n-eq0-clause-course
 unfolding kept_of
-returns-then-n-eq0-clause-put c = rw c.if-n-eq0.true (record { memory = refl; ends = refl })
+returns-then-n-eq0-clause-course c = (refl, rw c.if-n-eq0.true)
 
 pub loop-i-init : goal.loop-i-init
 unfolding welded sqrt_of Ieee.of_bits
@@ -53,7 +53,7 @@ loop-i-init c = record { holds = record { count = refl; last = refl; step = refl
 
 pub loop-i-preserved : goal.loop-i-preserved
 loop-i-preserved c =
-    let ps = c.args.points.now in
+    let ps = c.args.lane.points.now in
     let at = c.loop-i in
     let k = keeps ps at.h.last (sqrt_of binary32 at.h.square) at.i in
     let did = c.weld_step-h in
@@ -67,12 +67,11 @@ loop-i-preserved c =
 
 pub returns : goal.returns
 returns c =
-    let ps = c.args.points.now in
+    let ps = c.args.lane.points.now in
     let at = c.loop-i in
-    let did = c.weld_end in
+    let did = c.weld_end-m in
     let here : length ps / 3 - 1 ≡ at.i - 1 = omega (arith, at.auto) in
     let all : length ps / 3 ≡ suc (at.i - 1) = omega (arith, at.auto) in
-    record {
-      put = rw all (finish ps c.args.kept.now at.kept did.new.kept at.h (at.i - 1) at.invariant.holds did.result (rw here at did.ensures.put));
-      upper_bound = did.ensures.upper_bound;
-    }
+    let put = finish ps c.args.kept.now at.kept did.new.kept at.h (at.i - 1) at.invariant.holds did.result (rw here at did.ensures.put) in
+    let few = did.ensures.upper_bound in
+    record { course = (refl, rw all (put_front put (omega (arith, few, c.told-kept)))); few = simp length-take (omega (arith, few)) }

@@ -20,4 +20,4 @@ pub record Inv (ps : List Float) (k₀ k : List ℕ) (h : Welding) (i : ℕ) : T
   pub old : h.last < i
 
 abbrev pub invariant-loop-i : goal.invariant-loop-i
-invariant-loop-i l = Inv l.points l.initial.kept l.kept l.h l.i
+invariant-loop-i l = Inv l.lane.points.now l.initial.kept l.kept l.h l.i

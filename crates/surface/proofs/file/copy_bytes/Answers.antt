@@ -2,7 +2,7 @@
 use Rattle.std.proofs.Common.{◌+◌, ◌*◌, ◌/◌, length, sym, arith}
 use Rattle.surface.specs.File.{bytes_of, parts}
 use Rattle.surface.specs.FileSteps.{whole_in, record_in}
-use Rattle.surface.proofs.Copies.{filled_none, filled_fits, filled_next, filled_all}
+use Rattle.surface.proofs.Copies.{filled_none, filled_fits, filled_turn, filled_all}
 use Rattle.surface.proofs.Laws.File.{encode_length, file_same}
 use Rattle.surface.proofs.Laws.Records.{file_eight}
 use Rattle.surface.proofs.file.copy_bytes.Goals as goal
@@ -10,16 +10,20 @@ use Rattle.surface.proofs.file.copy_bytes.Goals as goal
 pub loop-k-init : goal.loop-k-init
 loop-k-init c = filled_none _ _ _ _
 
-pub put_file-at-requires : goal.put_file-at-requires
+pub overflow_mul-k : goal.overflow_mul-k
 unfolding whole_in
-put_file-at-requires c = filled_fits _ _ c.loop-k.invariant (length c.args.held.now / 8) (omega arith) (omega arith)
+overflow_mul-k c = omega arith
+
+pub put_file-requires : goal.put_file-requires
+unfolding whole_in
+put_file-requires c = filled_fits _ _ c.loop-k.invariant (length c.args.held.now / 8) (omega arith) (omega arith)
 
 pub loop-k-preserved : goal.loop-k-preserved
 unfolding record_in whole_in
 loop-k-preserved c =
     let l = c.loop-k in
     let z = file_eight c.args.held.now l.k (omega arith) c.«record».ensures (sym (file_same _ c.«record».result.words)) in
-    filled_next _ _ l.invariant (rw (← z.0) (omega (arith, encode_length c.«record».result.words, z.1))) (rw z.0 at c.put_file-at.ensures)
+    filled_turn _ _ l.invariant (rw (← z.0) (omega (arith, encode_length c.«record».result.words, z.1))) (rw z.0 at c.put_file.ensures) (omega arith)
 
 pub returns : goal.returns
 unfolding bytes_of parts whole_in

@@ -2,7 +2,7 @@
 use Rattle.std.proofs.Common.{◌≡◌, ◌+◌, ◌/◌, length, sym, arith, rules}
 use Rattle.surface.specs.File.{words_of, parts}
 use Rattle.surface.specs.FileSteps.{whole_in, record_in}
-use Rattle.surface.proofs.Copies.{filled_none, filled_fits, filled_next, filled_all}
+use Rattle.surface.proofs.Copies.{filled_none, filled_fits, filled_turn, filled_all}
 use Rattle.surface.proofs.Laws.File.{held_same}
 use Rattle.surface.proofs.Laws.Records.{held_eight}
 use Rattle.surface.proofs.file.copy_words.Goals as goal
@@ -10,9 +10,13 @@ use Rattle.surface.proofs.file.copy_words.Goals as goal
 pub loop-k-init : goal.loop-k-init
 loop-k-init c = filled_none _ _ _ _
 
-pub put-at-requires : goal.put-at-requires
+pub overflow_mul-k : goal.overflow_mul-k
 unfolding whole_in
-put-at-requires c =
+overflow_mul-k c = omega arith
+
+pub put-requires : goal.put-requires
+unfolding whole_in
+put-requires c =
     let n : length c.«record».result.words ≡ 8 = search rules in
     rw n (filled_fits _ _ c.loop-k.invariant (length c.args.bytes.now / 32) (omega arith) (omega arith))
 
@@ -21,7 +25,7 @@ unfolding record_in whole_in
 loop-k-preserved c =
     let l = c.loop-k in
     let z = held_eight c.args.bytes.now l.k (omega arith) c.«record».ensures (sym (held_same _ c.«record».result.words)) in
-    filled_next _ _ l.invariant (rw (← z.0) z.1) (rw z.0 at c.put-at.ensures)
+    filled_turn _ _ l.invariant (rw (← z.0) z.1) (rw z.0 at c.put.ensures) (omega arith)
 
 pub returns : goal.returns
 unfolding words_of parts whole_in

@@ -1,8 +1,8 @@
 -- `surface::file::put_file` meets its contract: the bytes of the words so far are put. Assumes nothing.
-use Rattle.std.proofs.Common.{get_or}
+use Rattle.std.proofs.Common.{◌+◌, ◌*◌, get_or}
 use Rattle.surface.specs.File.{four_bytes}
 use Rattle.surface.proofs.Copies.{Filled}
 use Rattle.surface.proofs.file.put_file.Given as goal
 
-abbrev pub invariant-loop-word : goal.invariant-loop-word
-invariant-loop-word l = Filled (λ k. four_bytes (get_or l.word-items k 0)) 4 l.initial.bytes l.bytes l.at l.word-index l.next
+abbrev pub invariant-loop-j : goal.invariant-loop-j
+invariant-loop-j l = Filled (λ k. four_bytes (get_or l.word-items k 0)) 4 l.initial.bytes l.bytes l.at l.j (l.at + 4 * l.j)

@@ -4,4 +4,4 @@ use Rattle.lookup.proofs.build_fast.Checked.tally.Goals as goal
 
 pub tally_on-requires-clause-sound : goal.tally_on-requires-clause-sound
 tally_on-requires-clause-sound c =
-    (c.sound.ensures c.if-sound.true, box_there _ _ _ _ _ _ _ _ c.in-Some.ensures c.around.ensures c.grown-first.ensures)
+    (c.sound.ensures c.if-sound.true, box_there _ _ _ _ _ _ c.in-Some.ensures c.around.ensures c.grown-first.ensures)

@@ -21,13 +21,13 @@ overflow_add-count c =
 pub loop-t-preserved-then-both : goal.loop-t-preserved-then-both
 loop-t-preserved-then-both c =
     let l = c.loop-t.invariant in
-    let b = box_there _ _ _ _ _ _ _ _ c.in-Some.ensures c.around.ensures c.grown-g.ensures in
+    let b = box_there _ _ _ _ _ _ c.in-Some.ensures c.around.ensures c.grown-g.ensures in
     (tally_next _ _ _ _ _ l.0 _ _ b c.join.ensures, sized_nan _ _ _ _ _ _ l.1)
 
 pub loop-t-preserved : goal.loop-t-preserved
 loop-t-preserved c =
     let l = c.loop-t.invariant in
-    let b = box_there _ _ _ _ _ _ _ _ c.in-Some.ensures c.around.ensures c.grown-g.ensures in
+    let b = box_there _ _ _ _ _ _ c.in-Some.ensures c.around.ensures c.grown-g.ensures in
     (tally_next _ _ _ _ _ l.0 _ _ b c.join.ensures, sized_next _ _ _ _ _ _ l.1 _ b _ _ c.if-both.false c.upper-width.ensures c.upper-height.ensures)
 
 pub returns : goal.returns

@@ -21,7 +21,7 @@ loop-t-preserved-then-both c =
 pub loop-t-preserved : goal.loop-t-preserved
 loop-t-preserved c =
     let x = c.loop-t.invariant in
-    measured_next _ _ _ _ _ _ _ _ _ c.requires.sound.1 x _ _ _ _ _ _ c.in-Some.ensures c.compared.ensures c.grown-g.ensures
+    measured_next _ _ _ _ _ _ _ _ _ c.requires.sound.1 x _ _ _ _ c.in-Some.ensures c.compared.ensures c.grown-g.ensures
     (merged _ _ _ _ _ _ x.sound c.lower-min_x.ensures c.lower-min_y.ensures c.upper-max_x.ensures c.upper-max_y.ensures) _ _ c.if-both.false
     c.upper-width.ensures c.upper-height.ensures
 

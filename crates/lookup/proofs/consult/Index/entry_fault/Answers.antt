@@ -4,4 +4,4 @@ use Rattle.lookup.proofs.Laws.Heads.{entry_none}
 use Rattle.lookup.proofs.consult.Index.entry_fault.Goals as goal
 
 pub loop-i-init : goal.loop-i-init
-loop-i-init c = let z : c.args.from - c.args.from ≡ 0 = omega arith in rw z (entry_none _ _ _)
+loop-i-init c = let z : c.args.run.start - c.args.run.start ≡ 0 = omega arith in rw z (entry_none _ _ _)

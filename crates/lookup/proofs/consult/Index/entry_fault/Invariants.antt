@@ -5,4 +5,4 @@ use Rattle.lookup.specs.Consult.{entry_fault}
 use Rattle.lookup.proofs.consult.Index.entry_fault.Given as goal
 
 abbrev pub invariant-loop-i : goal.invariant-loop-i
-invariant-loop-i l = entry_fault l.self.words.now l.self.count l.from (l.i - l.from) ≡ fine
+invariant-loop-i l = entry_fault l.self.words.now l.self.count l.fn.run.start (l.i - l.fn.run.start) ≡ fine

@@ -9,8 +9,8 @@ cuts_to : (c : After-lower-c) → let s = c in CutsTo c.lower-c.result (min (to_
 unfolding of_bits
 cuts_to c =
     let s = c in
-    cut_by s.args.q c.single.result c.upper.result c.lower-c.result s.args.self.count s.args.self.some
-    s.args.self.few c.single.ensures c.upper.ensures c.lower-c.ensures
+    cut_by s.args.q c.nearest_u32_to_f32-last.result c.upper.result c.lower-c.result s.args.self.count s.args.self.some
+    s.args.self.few c.nearest_u32_to_f32-last.ensures c.upper.ensures c.lower-c.ensures
 
 pub float_to_bits-near : goal.float_to_bits-near
 unfolding of_bits

@@ -14,7 +14,7 @@ few : (c : goal.After-reach_of-along) → (c.reach_of-across.result + 1) * (c.re
 few c = let p = c.args.self.framed in sides_few (across c).1 p.few_cols (along c).1 p.few_rows
 
 all : (c : goal.After-reach_of-along) → (c.reach_of-across.result + 1) * (c.reach_of-along.result + 1) * c.args.n ≤ 68719476736
-all c = most_few (few c) c.requires
+all c = most_few (few c) c.requires.few
 
 pub overflow_mul-result : goal.overflow_mul-result
 overflow_mul-result c = omega (arith, few c)

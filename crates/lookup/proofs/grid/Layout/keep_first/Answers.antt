@@ -6,10 +6,10 @@ use Rattle.lookup.proofs.grid.Layout.keep_first.Goals as goal
 use Rattle.lookup.proofs.grid.Layout.keep_first.Goals.{After-keep_blocks}
 
 -- how many are kept in a turn
-many : (c : After-keep_blocks) → length c.keep_blocks.new.blocks ≡ c.some_of-m.result
+many : (c : After-keep_blocks) → length c.keep_blocks.new.blocks ≡ c.min-m.result
 many c =
     let l = c.loop-t in
-    omega (arith, c.keep_blocks.auto.blocks, length-take (l.t + c.some_of-m.result - l.t) (drop l.t l.blocks), length-drop l.t l.blocks)
+    omega (arith, c.keep_blocks.auto.blocks, length-take (l.t + c.min-m.result - l.t) (drop l.t l.blocks), length-drop l.t l.blocks)
 
 pub loop-t-preserved : goal.loop-t-preserved
 loop-t-preserved c =

@@ -7,34 +7,34 @@ use Rattle.lookup.proofs.Answers.{refuses, gives, small}
 use Rattle.lookup.proofs.Sixteens.{run_sound, refused_is, run_is}
 use Rattle.lookup.proofs.sampler.Sampler.sample.Goals as goal
 
-pub returns-in_err-from : goal.returns-in_err-from
+pub returns-in_err-run : goal.returns-in_err-run
 unfolding read_sampled
-returns-in_err-from c =
+returns-in_err-run c =
     let s = c.args.self in
-    let h : c.from_residual.result ≡ Err c.in_err-from.field-0.0 = search rules in
-    rw h (refuses (lists_of s.mesh) _ _ _ s.in_order (rw s.counted at (refused_is _ _ c.locate.ensures c.in_err-from.was)))
+    let h : c.from_residual.result ≡ Err c.in_err-run.field-0.0 = search rules in
+    rw h (refuses (lists_of s.mesh) _ _ _ s.in_order (rw s.counted at (refused_is _ _ c.locate.ensures c.in_err-run.was)))
 
 pub check_run-requires : goal.check_run-requires
-check_run-requires c = λ w r. rw c.args.self.counted (run_sound _ _ _ _ _ _ c.part.ensures r (c.highest-hit.ensures.hit_of.flag.all w))
+check_run-requires c = λ w r. rw c.args.self.counted (run_sound _ _ _ _ _ _ c.part-entries.ensures r (c.highest-hit.ensures.hit_of.flag.all w))
 
 pub returns-in_err-check_run : goal.returns-in_err-check_run
 unfolding read_sampled found
 returns-in_err-check_run c =
     let s = c.args.self in
-    let k = run_is _ _ c.locate.ensures (rw c.in-Some.is at c.in_ok-from.was) in
+    let k = run_is _ _ c.locate.ensures (rw c.in-Some.is at c.in_ok-run.was) in
     let h : c.from_residual-in_err-check_run.result ≡ Err c.in_err-check_run.field-0.0 = search rules in
     rw h (refuses (lists_of s.mesh) _ _ _ s.in_order (rw s.counted at (k.foreign _ _ (sym c.in_err-check_run.ensures))))
 
 pub answer-requires-clause-small : goal.answer-requires-clause-small
 answer-requires-clause-small c =
     let s = c.args.self in
-    small (lists_of s.mesh) _ c.args.x c.args.y s.in_order _ c.part.ensures _ c.highest-hit.ensures.hit_of.found
+    small (lists_of s.mesh) _ c.args.x c.args.y s.in_order _ c.part-entries.ensures _ c.highest-hit.ensures.hit_of.found
 
 pub returns : goal.returns
 unfolding found
 returns c =
     let s = c.args.self in
-    let k = run_is _ _ c.locate.ensures (rw c.in-Some.is at c.in_ok-from.was) in
+    let k = run_is _ _ c.locate.ensures (rw c.in-Some.is at c.in_ok-run.was) in
     c.answer.ensures
-    ∙ gives (lists_of s.mesh) _ _ _ s.in_order (rw s.counted at (k.sound (sym c.in_ok-check_run.ensures))) c.part.ensures
+    ∙ gives (lists_of s.mesh) _ _ _ s.in_order (rw s.counted at (k.sound (sym c.in_ok-check_run.ensures))) c.part-entries.ensures
     c.highest-hit.ensures.hit_of.found

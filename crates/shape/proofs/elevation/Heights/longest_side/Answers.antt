@@ -15,7 +15,7 @@ returns-then-not-in_order c =
     let r = length h.right.now in
     let m = row_count h.rows.now in
     let seen = c.loop-k.invariant in
-    let here = c.row-here.ensures.0 in
+    let here = c.row-here.ensures in
     seen_odd h.rows.now l r
     (elim c.then-not-in_order.branch [
       | then-not-in_order-via-then-not-in_order w ↦
@@ -26,7 +26,7 @@ returns-then-not-in_order c =
 
 pub loop-k-preserved : goal.loop-k-preserved
 loop-k-preserved c =
-    seen_next _ _ _ c.loop-k.invariant c.row-here.ensures.0 c.in_order.ensures c.if-not-in_order.false
+    seen_next _ _ _ c.loop-k.invariant c.row-here.ensures c.in_order.ensures c.if-not-in_order.false
     c.in_order-else-not-in_order.ensures c.if-not-in_order-2.false (cc)
 
 pub returns : goal.returns

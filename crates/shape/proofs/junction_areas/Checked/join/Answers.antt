@@ -1,19 +1,17 @@
 -- `shape::junction_areas::Checked::join` meets its contract. Assumes nothing.
-use Rattle.std.proofs.Common.{◌≡◌, ◌/◌, length, refl, arith}
+use Rattle.std.proofs.Common.{◌≡◌, ◌/◌, length, refl, ap, arith}
 use Rattle.shape.specs.Gather.{gather}
 use Rattle.shape.specs.Outline.{solid, joined, origin, flat}
+use Rattle.shape.specs.declared.junction_areas.RingSoFar.{RingSoFar}
+use Rattle.shape.specs.OutlineSteps.{tip_of}
 use Rattle.shape.proofs.Joining.{sound_lists, last_end_within}
-use Rattle.shape.proofs.Reaching.{no_gap}
 use Rattle.shape.proofs.junction_areas.Checked.join.Goals as goal
 
-pub invariant_of-j : goal.invariant_of-j
-invariant_of-j c = record { least = no_gap.0; under = no_gap.1 }
-
 pub loop-k-init : goal.loop-k-init
-unfolding solid gather joined origin flat
+unfolding solid gather joined origin flat tip_of
 loop-k-init c = record {
-  joins = record { holds = record { many = refl; end = refl; front = refl }; solids = refl; gap = refl };
-  count = omega arith;
+  joins = record { holds = rw c.nothing_joined-j.ensures.0 (record { many = refl; end = refl; front = refl }); solids = c.nothing_joined-j.ensures.1; gap = c.nothing_joined-j.ensures.2 };
+  count = omega (arith, ap (λ (r : RingSoFar). r.count) c.nothing_joined-j.ensures.0);
 }
 
 pub returns : goal.returns

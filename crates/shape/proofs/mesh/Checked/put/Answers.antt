@@ -1,9 +1,7 @@
 -- `shape::mesh::Checked::put` meets its contract: so far the first k lanes stand in the memory. Assumes nothing.
-use Rattle.std.proofs.Common.{arith}
 use Rattle.shape.specs.Gather.{gather}
 use Rattle.shape.specs.SurfaceMesh.{given_of, lanes_of}
 use Rattle.shape.proofs.Laws.Memory.{put_none}
-use Rattle.shape.proofs.Strips.{blank_length}
 use Rattle.shape.proofs.Meshing.{short_lane, lane_short, room_at, next_written}
 use Rattle.shape.proofs.mesh.Checked.put.Goals as goal
 
@@ -12,13 +10,10 @@ unfolding gather
 loop-k-init c =
     let a = c.args in
     record {
-      written = record {
-        vertices = put_none a.vertices.now 0;
-        normals = put_none a.normals.now 0;
-        indices = put_none a.indices.now 0;
-        spans = put_none a.spans.now 0;
-      };
-      room = blank_length;
+      vertices = put_none a.vertices.now 0;
+      normals = put_none a.normals.now 0;
+      indices = put_none a.indices.now 0;
+      spans = put_none a.spans.now 0;
     }
 
 pub put_strip-at-requires : goal.put_strip-at-requires
@@ -27,14 +22,12 @@ put_strip-at-requires c =
     let at = c.loop-k in
     let short = lane_short g at.k (short_lane g c.args.self.sound at.k (rw c.count-k-end.ensures at c.loop-k-test.true)) in
     record {
-      points_len_bound = (rw (← c.lane.ensures) at short, c.word-id.ensures.1, at.invariant.room);
-      room = rw c.lane.ensures (room_at g at.k at.at at.invariant.written (lanes_of g) c.requires (rw c.count-k-end.ensures at c.loop-k-test.true));
+      points_len_bound = (rw (← c.lane.ensures) at short, c.word-id.ensures.1);
+      room = rw c.lane.ensures (room_at g at.k at.at at.invariant (lanes_of g) c.requires (rw c.count-k-end.ensures at c.loop-k-test.true));
     }
 
 pub loop-k-preserved : goal.loop-k-preserved
 loop-k-preserved c =
     let at = c.loop-k in
-    record {
-      written = next_written (given_of c.args.self.lanes) at.k at.at at.invariant.written c.put_strip-at.result (rw (c.lane.ensures, c.word-id.ensures.0) at c.put_strip-at.ensures);
-      room = omega (arith, c.put_strip-at.auto.kept, at.invariant.room);
-    }
+    next_written (given_of c.args.self.lanes) at.k at.at at.invariant c.put_strip-at.result
+    (rw (c.lane.ensures, c.word-id.ensures.0) at c.put_strip-at.ensures)

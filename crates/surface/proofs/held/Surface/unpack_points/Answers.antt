@@ -2,19 +2,19 @@
 use Rattle.std.proofs.Common.{◌*◌, refl, arith}
 use Rattle.surface.specs.File.{words_of}
 use Rattle.surface.specs.Held.{point_in, count_kind, points_of}
-use Rattle.surface.proofs.Copies.{filled_none, filled_fits, filled_next, filled_all}
+use Rattle.surface.proofs.Copies.{filled_none, filled_fits, filled_turn, filled_all}
 use Rattle.surface.proofs.Laws.Held.{sized}
 use Rattle.surface.proofs.held.Surface.unpack_points.Goals as goal
 
 pub loop-k-init : goal.loop-k-init
 loop-k-init c = filled_none _ _ _ _
 
-pub put-at-requires : goal.put-at-requires
-put-at-requires c = filled_fits _ _ c.loop-k.invariant c.args.self.sizes.questions (omega arith) (omega arith)
+pub put-requires : goal.put-requires
+put-requires c = filled_fits _ _ c.loop-k.invariant c.args.self.sizes.questions (omega arith) (omega arith)
 
 pub loop-k-preserved : goal.loop-k-preserved
 unfolding point_in
-loop-k-preserved c = filled_next _ _ c.loop-k.invariant refl (rw c.question_at-q.ensures at c.put-at.ensures)
+loop-k-preserved c = filled_turn _ _ c.loop-k.invariant refl (rw c.question_at-q.ensures at c.put.ensures) (omega arith)
 
 pub returns : goal.returns
 unfolding points_of

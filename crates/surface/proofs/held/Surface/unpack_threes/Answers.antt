@@ -2,20 +2,20 @@
 use Rattle.std.proofs.Common.{◌*◌, refl, arith}
 use Rattle.surface.specs.File.{words_of}
 use Rattle.surface.specs.Held.{three_in, count_kind}
-use Rattle.surface.proofs.Copies.{filled_none, filled_fits, filled_next, filled_all}
+use Rattle.surface.proofs.Copies.{filled_none, filled_fits, filled_turn, filled_all}
 use Rattle.surface.proofs.Laws.Held.{sized}
 use Rattle.surface.proofs.held.Surface.unpack_threes.Goals as goal
 
 pub loop-k-init : goal.loop-k-init
 loop-k-init c = filled_none _ _ _ _
 
-pub put-at-requires : goal.put-at-requires
-put-at-requires c = filled_fits _ _ c.loop-k.invariant c.args.self.sizes.vertices (omega arith) (omega arith)
+pub put-requires : goal.put-requires
+put-requires c = filled_fits _ _ c.loop-k.invariant c.args.self.sizes.vertices (omega arith) (omega arith)
 
 pub loop-k-preserved : goal.loop-k-preserved
 unfolding three_in
 loop-k-preserved c =
-    filled_next _ _ c.loop-k.invariant refl (rw (c.single.ensures, c.single-in-loop-k.ensures, c.single-in-loop-k-2.ensures) at c.put-at.ensures)
+    filled_turn _ _ c.loop-k.invariant refl (rw (c.single.ensures, c.single-in-loop-k.ensures, c.single-in-loop-k-2.ensures) at c.put.ensures) (omega arith)
 
 pub returns : goal.returns
 returns c =

@@ -1,0 +1,2 @@
+-- What is told of one answer is told of its equal.
+pub mod Telling
