@@ -50,6 +50,13 @@ int main(void)
     indices[4] = 8;
     count("rs_validate", rs_validate_of(&mesh, &place, &index_past, &of));
     printf("triangle %u, index %u of %u vertices\n", (unsigned)place, (unsigned)index_past, (unsigned)of);
+    uint8_t sentence[RS_SENTENCE_BYTES];
+    uint32_t read[3] = {0, 0, 0};
+    many = count("rs_verdict_write", rs_verdict_write(RS_OUT_OF_RANGE, place, index_past, of, sentence, RS_SENTENCE_BYTES));
+    printf("%.*s\n", (int)many, (const char *)sentence);
+    count("rs_verdict_read", rs_verdict_read(sentence, many, &read[0], &read[1], &read[2]));
+    printf("triangle %u, index %u of %u vertices\n", (unsigned)read[0], (unsigned)read[1], (unsigned)read[2]);
+    count("rs_verdict_read", rs_verdict_read(sentence, many - 1, &read[0], &read[1], &read[2]));
     indices[4] = 3;
 
     uint32_t record[RS_RECORD_WORDS], index[64], records[2 * RS_RECORD_WORDS];

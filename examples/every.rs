@@ -63,9 +63,17 @@ fn main() {
     let mut odd = mesh.indices.to_vec();
     odd[4] = 8;
     let said = told("rs_validate", validate(Mesh { indices: &odd, ..mesh }), |_| 3);
-    if let Some(Verdict::IndexOutOfRange { triangle, index, vertices }) = said {
-        println!("triangle {triangle}, index {index} of {vertices} vertices");
-    }
+    let counts = |v: Option<Verdict>| {
+        if let Some(Verdict::IndexOutOfRange { triangle, index, vertices }) = v {
+            println!("triangle {triangle}, index {index} of {vertices} vertices");
+        }
+    };
+    counts(said);
+    let mut sentence = [0; SENTENCE_BYTES];
+    let letters = told("rs_verdict_write", said.unwrap().write(&mut sentence), |&n| n).unwrap();
+    println!("{}", String::from_utf8_lossy(&sentence[..letters]));
+    counts(told("rs_verdict_read", Verdict::read(&sentence[..letters]), |_| 3));
+    told("rs_verdict_read", Verdict::read(&sentence[..letters - 1]), |_| 3);
 
     let (mut index, mut records) = ([0; 64], [0; 16]);
     let p = told("rs_height_at", height_at(mesh, 5.0, 1.0), found).flatten().unwrap();

@@ -25,6 +25,8 @@
  *   RS_RAGGED         a run that ends before it starts, starts before the last one's end or ends past
  *                     its list, or a list with a part element at its end; place: the list's position in
  *                     the call, from 0, as numbered below
+ *   RS_NOT_A_VERDICT  of bytes, no verdict's sentence; place: the first byte at which no sentence goes on so, or
+ *                     how many bytes there are. Of a kind and counts, no verdict; place: the first that is wrong
  *   RS_FOREIGN_INDEX  the index is not one of this mesh; place: its first unfit word, or its length
  *   RS_BAD_RECORD     a record of a surface file is bad; place: the first such record, from 0
  *   RS_OVERSIZE       a result past its limit; place: the limit
@@ -73,7 +75,8 @@ enum {
     RS_RAGGED = 2,
     RS_SHORT_OUTPUT = 3,
     RS_FOREIGN_INDEX = 4,
-    RS_BAD_RECORD = 5
+    RS_BAD_RECORD = 5,
+    RS_NOT_A_VERDICT = 6
 };
 
 /* The verdicts of rs_validate. */
@@ -96,7 +99,7 @@ enum {
     RS_RECORD_WORDS = 8
 };
 
-/* Elements of one point, record and so on. */
+/* Elements of one point, record and so on; and bytes of the longest sentence. */
 enum {
     RS_POINT_FLOATS = 3,
     RS_BANK_FLOATS = 2,
@@ -105,7 +108,8 @@ enum {
     RS_SPAN_WORDS = 5,
     RS_SEGMENT_WORDS = 2,
     RS_ROW_WORDS = 6,
-    RS_EAR_WORDS = 3
+    RS_EAR_WORDS = 3,
+    RS_SENTENCE_BYTES = 84
 };
 
 /* The parts of a code: the number of the refusal, or 0, and then the count or the place. */
@@ -219,6 +223,26 @@ uint64_t rs_validate(
     const float *vertices, size_t vertices_count, const float *normals, size_t normals_count,
     const uint32_t *indices, size_t indices_count, const uint32_t *spans, size_t spans_count,
     uint32_t *place, uint32_t *index, uint32_t *vertex_count);
+
+/* A verdict as the sentence of a log, in ASCII with a full stop and no line feed, and back. The kind and the counts
+ * place, index and vertex_count mean what they mean of rs_validate; a count may be any number of 32 bits:
+ *   RS_SOUND         mesh is sound.
+ *   RS_EMPTY         mesh has no triangles.
+ *   RS_NON_FINITE    vertex 3 is not finite.
+ *   RS_OUT_OF_RANGE  triangle 3 indexes vertex 7, past the 4 vertices present.
+ *   RS_DEGENERATE    triangle 3 has no area.
+ *
+ * rs_verdict_write. A count that the kind does not tell must be 0: rs_validate and rs_verdict_read leave it as it was,
+ * so set the three to 0 before each call of those. Refused: values that are no verdict (RS_NOT_A_VERDICT: 0 for a
+ * kind past these, 1, 2 or 3 for place, index or vertex_count if it is not told and not 0); short output.
+ * Written: text, RS_SENTENCE_BYTES bytes at most. Count: bytes.
+ *
+ * rs_verdict_read. Taken is exactly what rs_verdict_write can write; of the bytes lent 84 at most are looked at.
+ * Refused: all others (RS_NOT_A_VERDICT). Count: the kind. place, index, vertex_count: what rs_validate leaves. */
+uint64_t rs_verdict_write(
+    uint32_t kind, uint32_t place, uint32_t index, uint32_t vertex_count, uint8_t *text, size_t text_count);
+uint64_t rs_verdict_read(
+    const uint8_t *text, size_t text_count, uint32_t *place, uint32_t *index, uint32_t *vertex_count);
 
 /* A surface file's bytes as words, and back: records of eight words, little-endian in the file. A surface
  * that is written and read is the same, and so is a file that is read and written.

@@ -66,6 +66,12 @@ mod raw {
             indices: *const u32, indices_count: usize, spans: *const u32, spans_count: usize,
             place: *mut u32, index: *mut u32, vertex_count: *mut u32,
         ) -> u64;
+        pub fn rs_verdict_write(
+            kind: u32, place: u32, index: u32, vertex_count: u32, text: *mut u8, text_count: usize,
+        ) -> u64;
+        pub fn rs_verdict_read(
+            text: *const u8, text_count: usize, place: *mut u32, index: *mut u32, vertex_count: *mut u32,
+        ) -> u64;
         pub fn rs_surface_read(bytes: *const u8, bytes_count: usize, held: *mut u32, held_count: usize) -> u64;
         pub fn rs_surface_write(held: *const u32, held_count: usize, bytes: *mut u8, bytes_count: usize) -> u64;
         pub fn rs_report(bytes: *const u8, bytes_count: usize, text: *mut u8, text_count: usize) -> u64;
@@ -85,6 +91,8 @@ pub enum Refusal {
     ForeignIndex(u32),
     /// This record of a surface file is bad.
     BadRecord(u32),
+    /// The first byte at which no verdict's sentence goes on so; or how many bytes there are.
+    NotAVerdict(u32),
     /// A number that this page has no name for, and its place: the library is newer than the page.
     Unknown(u32, u32),
     /// The caller's own mistake: fewer records are given than to have this one (`record` alone says so).
@@ -99,6 +107,7 @@ impl Refusal {
             3 => Refusal::ShortOutput(place),
             4 => Refusal::ForeignIndex(place),
             5 => Refusal::BadRecord(place),
+            6 => Refusal::NotAVerdict(place),
             _ => Refusal::Unknown(number, place),
         }
     }
@@ -111,6 +120,7 @@ impl Refusal {
             Refusal::ShortOutput(_) => 3,
             Refusal::ForeignIndex(_) => 4,
             Refusal::BadRecord(_) => 5,
+            Refusal::NotAVerdict(_) => 6,
             Refusal::Unknown(number, _) => number,
             Refusal::NoRecord(_) => 0,
         }
@@ -123,6 +133,7 @@ impl Refusal {
             | Refusal::ShortOutput(p)
             | Refusal::ForeignIndex(p)
             | Refusal::BadRecord(p)
+            | Refusal::NotAVerdict(p)
             | Refusal::Unknown(_, p) => p,
             Refusal::NoRecord(k) => u32::try_from(k).unwrap_or(u32::MAX),
         }
@@ -381,6 +392,51 @@ pub enum Verdict {
     Unknown(u32),
 }
 
+/// Room for the longest sentence of a verdict.
+pub const SENTENCE_BYTES: usize = 84;
+
+impl Verdict {
+    fn new(kind: u32, place: u32, index: u32, vertices: u32) -> Verdict {
+        let (place, index, vertices) = (place as usize, index as usize, vertices as usize);
+        match kind {
+            0 => Verdict::Sound,
+            1 => Verdict::Empty,
+            2 => Verdict::NonFiniteVertex(place),
+            3 => Verdict::IndexOutOfRange { triangle: place, index, vertices },
+            4 => Verdict::DegenerateTriangle(place),
+            _ => Verdict::Unknown(kind),
+        }
+    }
+
+    /// The verdict's sentence, with a full stop and no line feed: how many bytes. A count that has more than 32 bits
+    /// has no sentence.
+    pub fn write(self, text: &mut [u8]) -> Result<usize, Refusal> {
+        let (kind, counts) = match self {
+            Verdict::Sound => (0, [0; 3]),
+            Verdict::Empty => (1, [0; 3]),
+            Verdict::NonFiniteVertex(v) => (2, [v, 0, 0]),
+            Verdict::IndexOutOfRange { triangle, index, vertices } => (3, [triangle, index, vertices]),
+            Verdict::DegenerateTriangle(t) => (4, [t, 0, 0]),
+            // its counts are not known either
+            Verdict::Unknown(_) => return Err(Refusal::NotAVerdict(0)),
+        };
+        if counts.iter().any(|&n| u32::try_from(n).is_err()) {
+            return Err(Refusal::Oversize(u32::MAX));
+        }
+        let [place, index, vertices] = counts.map(|n| n as u32);
+        count(unsafe { raw::rs_verdict_write(kind, place, index, vertices, text.as_mut_ptr(), text.len()) })
+    }
+
+    /// The verdict of a sentence.
+    pub fn read(text: &[u8]) -> Result<Verdict, Refusal> {
+        let (mut place, mut index, mut vertices) = (0, 0, 0);
+        let code = unsafe {
+            raw::rs_verdict_read(text.as_ptr(), text.len(), &mut place, &mut index, &mut vertices)
+        };
+        told(code).map(|kind| Verdict::new(kind, place, index, vertices))
+    }
+}
+
 /// The verdict on a mesh.
 pub fn validate(m: Mesh) -> Result<Verdict, Refusal> {
     let (mut place, mut index, mut vertices) = (0, 0, 0);
@@ -391,15 +447,7 @@ pub fn validate(m: Mesh) -> Result<Verdict, Refusal> {
             &mut place, &mut index, &mut vertices,
         )
     };
-    let (place, index, vertices) = (place as usize, index as usize, vertices as usize);
-    told(code).map(|kind| match kind {
-        0 => Verdict::Sound,
-        1 => Verdict::Empty,
-        2 => Verdict::NonFiniteVertex(place),
-        3 => Verdict::IndexOutOfRange { triangle: place, index, vertices },
-        4 => Verdict::DegenerateTriangle(place),
-        _ => Verdict::Unknown(kind),
-    })
+    told(code).map(|kind| Verdict::new(kind, place, index, vertices))
 }
 
 /// The words of a surface file: how many.

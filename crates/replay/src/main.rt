@@ -4,6 +4,7 @@
 // and these. A line for each block says how many cases differ, and the last line for all.
 #![tactic(auto)]
 
+mod bytes;
 mod grid_ops;
 mod junction_ops;
 mod lists;

@@ -10,8 +10,8 @@ use stored::vector_ops::VectorOp;
 
 // The operations of the layers from the shapes on, by their places in the oracle's list. Of a call on lent
 // lists the case gives these, and the room in each output. The answer is 0 and what the call answers, or a
-// refusal's number and place; and then the lent memory whole. The last is the case whose stored answer is
-// wrong on purpose.
+// refusal's number and place; and then the lent memory whole. The planted one is the case whose stored answer
+// is wrong on purpose.
 #[derive(Clone, Copy)]
 pub enum UpperOp {
     NoArea,
@@ -33,6 +33,8 @@ pub enum UpperOp {
     Tops,
     TopsWords,
     Planted,
+    Sentence,
+    ReadSentence,
 }
 
 impl TryFrom<u32> for UpperOp {
@@ -59,6 +61,8 @@ impl TryFrom<u32> for UpperOp {
             43 => UpperOp::Tops,
             44 => UpperOp::TopsWords,
             45 => UpperOp::Planted,
+            46 => UpperOp::Sentence,
+            47 => UpperOp::ReadSentence,
             _ => return Err(UnknownOp(number)),
         })
     }
@@ -86,6 +90,8 @@ impl fmt::Display for UpperOp {
             UpperOp::Tops => "tops",
             UpperOp::TopsWords => "tops_words",
             UpperOp::Planted => "planted",
+            UpperOp::Sentence => "sentence",
+            UpperOp::ReadSentence => "read_sentence",
         })
     }
 }
@@ -115,6 +121,8 @@ impl UpperOp {
             UpperOp::TopsWords | UpperOp::Planted => {
                 lookup_ops::words_case(lookup_ops::at_once, case, answer)
             }
+            UpperOp::Sentence => verdict_ops::sentence_case(case, answer),
+            UpperOp::ReadSentence => verdict_ops::read_case(case, answer),
         }
     }
 }

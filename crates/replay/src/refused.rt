@@ -2,7 +2,7 @@
 use shape::refusal::Refusal;
 use stored::answer::Answer;
 
-// A refusal by its number in document 01's table, and the place.
+// A refusal by its number, and the place.
 pub(crate) fn put_refusal(answer: &mut Answer, r: Refusal) {
     answer.word(r.number());
     answer.number(r.place());

@@ -1,12 +1,13 @@
 -- What an exported function says of the inner call's answer: the code that it returns, and what it leaves in each number that it is lent. Definitions
 -- only. Assumes nothing.
-use Rattle.std.specs.Prelude.{ℕ, ◌+◌, ◌*◌, ◌^◌, Bool, cond, List, Float, Option, Some, None}
-use Rattle.shape.specs.Refusal.{Answer, taken, refused}
+use Rattle.std.specs.Prelude.{ℕ, ◌+◌, ◌*◌, ◌^◌, Bool, cond, not, ◌&&◌, nat_lt, ◌==◌, List, [], Float, Option, Some, None}
+use Rattle.shape.specs.Refusal.{Fault, fine, refuse, Answer, taken, refused, judge}
 use Rattle.shape.specs.declared.elevation.ElevationGrid.{ElevationGrid}
 use Rattle.shape.specs.Elevation.{Spot}
 use Rattle.shape.specs.Lists.{Mesh}
 use Rattle.shape.specs.Outline.{result_of}
 use Rattle.shape.specs.Verdict.{Validity, sound, empty, non_finite, out_of_range, degenerate}
+use Rattle.surface.specs.Sentence.{sentence_of, sentence_answer}
 use Rattle.lookup.specs.Plain.{answer_of}
 use Rattle.lookup.specs.Sampler.{Sample}
 use Rattle.lookup.specs.Batch.{word_for}
@@ -85,6 +86,40 @@ grid_of x y sin cos start spacing = record { origin_x = x; origin_y = y; sin = s
 -- a grid that may be missing
 unfoldable pub grid_if : Bool → ElevationGrid → Option ElevationGrid
 grid_if there g = cond there (Some g) None
+
+-- ---- a verdict by its kind and counts
+
+-- how many counts a verdict of this kind has
+unfoldable pub counts_used : ℕ → ℕ
+counts_used kind = cond (kind == 3) 3 (cond (kind == 2) 1 (cond (kind == 4) 1 0))
+
+-- count k, from 1, is none of the kind's, and not 0
+unfoldable pub idle : ℕ → ℕ → ℕ → Bool
+unfolding counts_used
+idle kind k n = nat_lt (counts_used kind) k && not (n == 0)
+
+-- what is no verdict: by the first value that is wrong
+unfoldable pub verdict_fault : ℕ → ℕ → ℕ → ℕ → Fault
+unfolding idle refuse
+verdict_fault kind a b c = refuse (nat_lt 4 kind) 6 0 (refuse (idle kind 1 a) 6 1 (refuse (idle kind 2 b) 6 2 (refuse (idle kind 3 c) 6 3 fine)))
+
+unfoldable pub verdict_by : ℕ → ℕ → ℕ → ℕ → Validity
+verdict_by kind a b c = cond (kind == 0) sound (cond (kind == 1) empty (cond (kind == 2) (non_finite a) (cond (kind == 3) (out_of_range a b c) (degenerate a))))
+
+unfoldable pub verdict_given : ℕ → ℕ → ℕ → ℕ → Answer Validity
+unfolding verdict_fault verdict_by judge
+verdict_given kind a b c = judge (verdict_fault kind a b c) (taken (verdict_by kind a b c))
+
+-- what writing it answers, and what is written
+unfoldable pub written_answer : Answer Validity → ℕ → Answer ℕ
+unfolding sentence_answer
+written_answer (taken v) room = sentence_answer v room
+written_answer (refused number place) room = refused number place
+
+unfoldable pub written_of : Answer Validity → List ℕ
+unfolding sentence_of
+written_of (taken v) = sentence_of v
+written_of (refused number place) = []
 
 -- ---- by other names
 

@@ -5,7 +5,7 @@
 #![tactic(auto)]
 
 ghost use Rattle.std.specs.Prelude.{◌≡◌, [], length};
-ghost use Rattle.shape.specs.Refusal.{judge, taken, leaves};
+ghost use Rattle.shape.specs.Refusal.{judge, taken, told, leaves};
 ghost use Rattle.shape.specs.Lists.{mesh_lists, mesh_fault};
 ghost use Rattle.shape.specs.Elevation.{height_answer, height_at_answer};
 ghost use Rattle.shape.specs.Outline.{outline_answer};
@@ -13,14 +13,15 @@ ghost use Rattle.shape.specs.Ears.{ears_of, ears_answer};
 ghost use Rattle.shape.specs.JunctionMesh.{ground, ground_answer, ground_mesh};
 ghost use Rattle.shape.specs.MeshMemory.{leaves_mesh};
 ghost use Rattle.shape.specs.SurfaceMesh.{given, mesh_of, answer_of};
-ghost use Rattle.shape.specs.Verdict.{validity_of};
+ghost use Rattle.shape.specs.Verdict.{validity_of, read_verdict};
 ghost use Rattle.lookup.specs.Index.{index_words, build_of};
 ghost use Rattle.lookup.specs.Sampler.{top_of};
 ghost use Rattle.lookup.specs.Batch.{word_for, record_of, records_of, tops_of};
 ghost use Rattle.lookup.specs.Record.{record_answer};
 ghost use Rattle.surface.specs.File.{words_of, bytes_of, read_of, write_of};
 ghost use Rattle.surface.specs.Report.{report_of, report_answer};
-ghost use Rattle.roadsurface.specs.Answers.{code_of, left_in, bit_of, found_in, height_put, kind_of, place_put, index_put, vertices_put, grid_of, grid_if, ring_floats, plain_answer};
+ghost use Rattle.surface.specs.Sentence.{read_sentence};
+ghost use Rattle.roadsurface.specs.Answers.{code_of, left_in, bit_of, found_in, height_put, kind_of, place_put, index_put, vertices_put, grid_of, grid_if, counts_used, verdict_given, written_answer, written_of, ring_floats, plain_answer};
 
 use crate::tell::{tell_count, tell_elevation, tell_mesh, tell_outline, tell_verdict};
 use lookup::batch::tops;
@@ -32,9 +33,12 @@ use shape::junction::mesh;
 use shape::junction_areas::Boundary;
 use shape::lists::Mesh;
 use shape::mesh::{Lanes, surface_mesh};
+use shape::refusal::{Refusal, refuse_if};
+use shape::validate::MeshError;
 use shape::{elevation, junction_areas};
 use surface::file::{read, write};
 use surface::report::report;
+use surface::sentence;
 
 mod tell;
 
@@ -367,6 +371,92 @@ pub extern "C" fn rs_validate(
     };
     let a = mesh.validate();
     tell_verdict(a, place, index, vertex_count)
+}
+
+// A verdict by its kind and counts, as `rs_validate` tells them.
+#[tactic(auto, unfolding(shape::specs::Refusal::refuse, shape::specs::Refusal::judge, shape::specs::Refusal::number_of, shape::specs::Refusal::place_of, shape::specs::Refusal::found, shape::specs::Verdict::read_verdict, shape::specs::Verdict::verdict_of, crate::specs::Answers::idle, crate::specs::Answers::verdict_fault, crate::specs::Answers::verdict_by, crate::specs::Answers::verdict_given))]
+fn given_verdict(
+    kind: u32,
+    place: u32,
+    index: u32,
+    vertex_count: u32,
+) -> Result<Result<(), MeshError>, Refusal>
+    ensures { read_verdict result ≡ verdict_given kind place index vertex_count }
+{
+    let used = counts_used(kind);
+    refuse_if(4 < kind, Refusal::NotAVerdict(0))?;
+    refuse_if(used < 1 && place != 0, Refusal::NotAVerdict(1))?;
+    refuse_if(used < 2 && index != 0, Refusal::NotAVerdict(2))?;
+    refuse_if(used < 3 && vertex_count != 0, Refusal::NotAVerdict(3))?;
+    Ok(match kind {
+        0 => Ok(()),
+        1 => Err(MeshError::Empty),
+        2 => Err(MeshError::NonFiniteVertex(place as usize)),
+        3 => Err(MeshError::IndexOutOfRange(place as usize, index as usize, vertex_count as usize)),
+        _ => Err(MeshError::DegenerateTriangle(place as usize)),
+    })
+}
+
+// How many counts a verdict of this kind has.
+#[tactic(auto, unfolding(crate::specs::Answers::counts_used))]
+fn counts_used(kind: u32) -> u32
+    ensures { result ≡ counts_used kind }
+{
+    match kind {
+        3 => 3,
+        2 | 4 => 1,
+        _ => 0,
+    }
+}
+
+// The sentence of a verdict; one that is turned back is passed on.
+#[tactic(auto, unfolding(shape::specs::Refusal::told, shape::specs::Refusal::leaves, shape::specs::Refusal::number_of, shape::specs::Refusal::place_of, shape::specs::Verdict::read_verdict, crate::specs::Answers::written_answer, crate::specs::Answers::written_of))]
+fn write_given(
+    verdict: Result<Result<(), MeshError>, Refusal>,
+    text: &mut [u8],
+) -> Result<usize, Refusal>
+    ensures result_value { told result ≡ written_answer (read_verdict verdict) (length text.old) }
+    ensures text_after { text.new ≡ leaves (written_answer (read_verdict verdict) (length text.old)) (written_of (read_verdict verdict)) text.old }
+{
+    sentence::write(verdict?, text)
+}
+
+// The sentence of a verdict by its kind and counts: how many bytes.
+#[unsafe(no_mangle)]
+pub extern "C" fn rs_verdict_write(
+    kind: u32,
+    place: u32,
+    index: u32,
+    vertex_count: u32,
+    text: &mut [u8],
+) -> u64
+    ensures result_value { let v = verdict_given kind place index vertex_count in
+        let a = written_answer v (length text.old) in
+        result ≡ code_of (λ n. n) a }
+    ensures text_after { let v = verdict_given kind place index vertex_count in
+        let a = written_answer v (length text.old) in
+        text.new ≡ leaves a (written_of v) text.old }
+{
+    let verdict = given_verdict(kind, place, index, vertex_count);
+    let logged = write_given(verdict, text);
+    tell_count(logged)
+}
+
+// The verdict of a sentence: its kind. Told beside it is the same as by `rs_validate`.
+#[unsafe(no_mangle)]
+pub extern "C" fn rs_verdict_read(
+    text: &[u8],
+    place: &mut u32,
+    index: &mut u32,
+    vertex_count: &mut u32,
+) -> u64
+    ensures result_value { result ≡ code_of kind_of (read_sentence text.now) }
+    ensures place_after { place.new ≡ left_in place_put (read_sentence text.now) place.old }
+    ensures index_after { index.new ≡ left_in index_put (read_sentence text.now) index.old }
+    ensures vertex_count_after { vertex_count.new ≡ left_in vertices_put (read_sentence text.now) vertex_count.old }
+{
+    let found = sentence::read(text);
+    tell_verdict(found, place, index, vertex_count)
 }
 
 // The words of a surface file: how many.

@@ -1,8 +1,8 @@
--- Document 01, "When a call is turned back": the numbers and places of the refusals, and what an answer leaves in lent memory.
+-- Document 01, "When a call is turned back", and document 02: the numbers and places of the refusals, and what an answer leaves in lent memory.
 -- Definitions only. Assumes nothing.
 use Rattle.std.specs.Prelude.{ℕ, Bool, cond, List, ◌++◌, length, drop, Result, Ok, Err}
 use Rattle.shape.specs.declared.refusal.Refusal.{Refusal}
-use Rattle.shape.specs.declared.refusal.Refusal.TheVariants.{Oversize, Ragged, ShortOutput, ForeignIndex, BadRecord}
+use Rattle.shape.specs.declared.refusal.Refusal.TheVariants.{Oversize, Ragged, ShortOutput, ForeignIndex, BadRecord, NotAVerdict}
 
 -- the table's number and place of each case
 unfoldable pub number_of : Refusal → ℕ
@@ -11,6 +11,7 @@ number_of (Ragged list) = 2
 number_of (ShortOutput wanted) = 3
 number_of (ForeignIndex word) = 4
 number_of (BadRecord record') = 5
+number_of (NotAVerdict byte) = 6
 
 unfoldable pub place_of : Refusal → ℕ
 place_of (Oversize limit) = limit
@@ -18,6 +19,7 @@ place_of (Ragged list) = list
 place_of (ShortOutput wanted) = wanted
 place_of (ForeignIndex word) = word
 place_of (BadRecord record') = record'
+place_of (NotAVerdict byte) = byte
 
 -- nothing is at fault, or the first fault by its number and place
 pub data Fault : Type 0 where

@@ -1,4 +1,5 @@
-// Why a call is turned back: a case for each word of document 01's table, with the place that it names.
+// Why a call is turned back: a case for each word of document 01's table, and for those that document 02 adds, with
+// the place that it names.
 #![tactic(auto, unfolding(crate::specs::Refusal::found, crate::specs::Refusal::refuse, crate::specs::Refusal::number_of, crate::specs::Refusal::place_of))]
 
 ghost use Rattle.std.specs.Prelude.{◌≡◌, ◌<◌};
@@ -16,12 +17,14 @@ pub enum Refusal {
     ForeignIndex(usize),
     // The first bad record.
     BadRecord(usize),
+    // The first byte at which no verdict's sentence goes on so, or how many bytes there are.
+    NotAVerdict(usize),
 }
 
 impl Refusal {
-    // Its number in document 01's table.
+    // Its number in the table.
     pub fn number(self) -> u32
-        ensures { (result ≡ number_of self) × (result < 6) }
+        ensures { (result ≡ number_of self) × (result < 7) }
     {
         match self {
             Refusal::Oversize(_) => 1,
@@ -29,6 +32,7 @@ impl Refusal {
             Refusal::ShortOutput(_) => 3,
             Refusal::ForeignIndex(_) => 4,
             Refusal::BadRecord(_) => 5,
+            Refusal::NotAVerdict(_) => 6,
         }
     }
 
@@ -42,6 +46,7 @@ impl Refusal {
             Refusal::ShortOutput(wanted) => wanted,
             Refusal::ForeignIndex(word) => word,
             Refusal::BadRecord(record) => record,
+            Refusal::NotAVerdict(byte) => byte,
         }
     }
 }

@@ -13,6 +13,8 @@ pub const BLANK: f32 = 1234.5;
 
 pub const BLANK_WORD: u32 = 0x5a5a_5a5a;
 
+pub const BLANK_BYTE: u8 = 0x5a;
+
 // The words that are given of a list: `count` of the case's, from `from` on, over and over.
 #[derive(Clone, Copy)]
 pub struct Given<'a> {

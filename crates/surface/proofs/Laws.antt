@@ -4,3 +4,6 @@ pub mod Records
 pub mod Held
 pub mod Text
 pub mod Report
+pub mod Counts
+pub mod Walk
+pub mod Sentence

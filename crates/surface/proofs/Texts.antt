@@ -1,32 +1,23 @@
 -- Decimal digits one after another, how many there are, and bytes put over others. Assumes nothing.
 use borrow.Rule.Slice.PartMut.{put_mid}
 use mathlib.Core.Path.{◌≡◌, refl, sym}
-use mathlib.Core.List.{List, [], ◌∷◌, ◌++◌}
+use mathlib.Core.List.{List, [], ◌∷◌}
 use Prim.Native.Nat.{ℕ, zero, suc, ◌+◌, ◌*◌, ◌/◌, ◌%◌, ◌^◌, ◌≤◌, ◌<◌}
 use native.Mathlib.Nat.{pow-suc}
 use native.Mathlib.Omega.{arith}
 use Rattle.std.proofs.Common.{drop-drop, append_assoc, ◌∙◌}
 use lib.ListN.{length, take, drop}
 use lib.Seq.{sets-eq}
-use borrow.Author.Tests.{lt-ltb, le-ltb}
 use Rattle.shape.specs.Memory.{Put}
 use Rattle.shape.proofs.Laws.Memory.{put_then}
 use Rattle.surface.specs.Text.{digit, digits_of}
+use Rattle.surface.proofs.Laws.Text.{digits_more}
 
 -- bytes that are written over others are put
 pub put_over : {A : Type 0} (out bs : List A) (at k : ℕ) → k ≡ length bs → at + length bs ≤ length out → Put out (put_mid at k out bs) at bs (at + length bs)
 put_over out bs at k e h = record { memory = rw (e, drop-drop) (sym (sets-eq bs out at h ∙ append_assoc (take at out) bs (drop (at + length bs) out))); ends = refl }
 
 -- ---- decimal digits
-
-pub digits_one : (k n : ℕ) → n < 10 → digit n ∷ [] ≡ digits_of k n
-unfolding digits_of
-digits_one zero n h = refl
-digits_one (suc k) n h = rw (lt-ltb n 10 h)
-
-digits_more : (k n : ℕ) → 10 ≤ n → digits_of (suc k) n ≡ digits_of k (n / 10) ++ digit (n % 10) ∷ []
-unfolding digits_of
-digits_more k n h = rw (le-ltb n 10 h)
 
 pub digits_last : (m₀ m m' : List ℕ) (at q r n : ℕ) → 10 ≤ n → ((k : ℕ) → n / 10 < 10 ^ suc k → Put m₀ m at (digits_of k (n / 10)) q)
     → Put m m' q (digit (n % 10) ∷ []) r → (k : ℕ) → n < 10 ^ suc k → Put m₀ m' at (digits_of k n) r

@@ -1,4 +1,4 @@
--- The definitions, a file for each part of document 01's "Surface file and `probe`".
+-- The definitions: a file for each part of document 01's "Surface file and `probe`", and those of document 02's "The verdict as a sentence".
 pub mod File
 pub mod Kind
 pub mod FileSteps
@@ -7,3 +7,5 @@ pub mod Lent
 pub mod Text
 pub mod Report
 pub mod ReportSteps
+pub mod Sentence
+pub mod SentenceSteps

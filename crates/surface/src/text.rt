@@ -52,7 +52,7 @@ fn put_hexadecimal(out: &mut [u8], at: usize, w: u32) -> usize
 
 // ---- a word and what comes after it
 
-fn put_number(out: &mut [u8], at: usize, word: &[u8], n: u32) -> usize
+pub(crate) fn put_number(out: &mut [u8], at: usize, word: &[u8], n: u32) -> usize
     requires { at + length word.now + length (decimal n) ≤ length out.old }
     ensures put { Put out.old out.new at (word.now ++ decimal n) result }
     ensures value { result ≡ at + length word.now + length (decimal n) }

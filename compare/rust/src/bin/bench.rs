@@ -8,6 +8,7 @@ use oracle::roads::*;
 use oracle::*;
 use ours::{GridLists, LaneLists, Lists};
 use std::hint::black_box;
+use std::io::Write;
 use std::time::Instant;
 
 struct Bench {
@@ -42,6 +43,20 @@ impl Bench {
         let n = ops as f64;
         let goal = if goal > 0.0 { format!("{goal}") } else { String::new() };
         println!("| {name} | {:.1} | {:.1} | {:.2} | {goal} | {rounds} |", a / n, b / n, b / a);
+    }
+
+    /// A call that the Rust has not.
+    fn alone<T>(&self, name: &str, ops: usize, goal: &str, mut ours: impl FnMut() -> T) {
+        if !self.wants(name) {
+            return;
+        }
+        let mut b = f64::MAX;
+        for _ in 0..2000 {
+            let t = Instant::now();
+            black_box(ours());
+            b = b.min(t.elapsed().as_nanos() as f64);
+        }
+        println!("| {name} | | {:.1} | | {goal} | 2000 |", b / ops as f64);
     }
 }
 
@@ -190,10 +205,32 @@ fn probes(b: &Bench) {
     );
 }
 
+fn sentences(b: &Bench) {
+    // the longest, and one as a map drawer may meet it
+    for (what, [t, i, n]) in [("longest", [u32::MAX; 3]), ("usual", [1234, 65000, 60000])] {
+        let e: Result<(), MeshError> = Err(MeshError::IndexOutOfRange(t as usize, i, n as usize));
+        let s = sentence::sentence(&e);
+        let (mut theirs, mut text) = ([0; 90], [0; 90]);
+        b.pair(
+            &format!("verdict written, {what}, {} bytes", s.len()), 1000, 0.0,
+            || (0..1000).for_each(|_| {
+                let Err(e) = black_box(&e) else { return };
+                let _ = write!(&mut black_box(&mut theirs)[..], "{e}.");
+            }),
+            || (0..1000).for_each(|_| { let _ = black_box(ours::verdict_write(black_box([3, t, i, n]), black_box(&mut text))); }),
+        );
+        b.alone(
+            &format!("verdict read, {what}, {} bytes", s.len()), 1000, "150 ns",
+            || (0..1000).for_each(|_| { let _ = black_box(ours::verdict_read(black_box(s.as_bytes()))); }),
+        );
+    }
+}
+
 fn main() {
     let b = Bench { words: std::env::args().skip(1).collect() };
     println!("| call | Rust, ns | ours, ns | ours / Rust | goal | rounds |\n|---|---|---|---|---|---|");
     lookups(&b);
     shapes(&b);
     probes(&b);
+    sentences(&b);
 }

@@ -8,7 +8,7 @@ type R<T> = Result<T, String>;
 
 pub const OPS: &[&str] = &[
     "elevation_height", "elevation_height_at", "ring", "ear_clip", "junction_mesh", "surface_mesh", "validate", "height_at", "sampler",
-    "indexed", "lookup_words", "probes",
+    "indexed", "lookup_words", "probes", "sentence", "read_sentence",
 ];
 
 const FLOAT: f32 = f32::from_bits(0x4b12_3456);
@@ -211,18 +211,13 @@ fn indexed(m: &Lists, index: &[u32], q: &[(f32, f32)], o: &mut Out) -> R<()> {
 }
 
 fn probes(i: &mut In, o: &mut Out) -> R<()> {
-    let n = i.u()? as usize;
-    let words = (0..n.div_ceil(4)).map(|_| i.u()).collect::<R<Vec<u32>>>()?;
-    let bytes = &oracle::words::to_bytes(&words)[..n];
+    let bytes = &i.bytes()?;
     let mut text = vec![BYTE; 300_000];
     let k = ours::report(bytes, &mut text).or_else(refused)?;
     untouched(&text, k, BYTE)?;
     short(k, BYTE, |out| ours::report(bytes, out).map(|_| ()))?;
     round_trip(bytes)?;
-    text.truncate(k);
-    o.u(k as u32);
-    text.resize(k.div_ceil(4) * 4, 0);
-    oracle::words::from_bytes(&text)?.into_iter().for_each(|w| o.u(w));
+    o.bytes(&text[..k]);
     Ok(())
 }
 
@@ -245,6 +240,20 @@ fn round_trip(bytes: &[u8]) -> R<()> {
         }
         (Err(a), Err(b)) if a.number == b.number && a.place == b.place => untouched(&held, 0, WORD),
         (a, b) => Err(format!("read: {a:?}, and the oracle: {:?}", b.map(|_| ()).map_err(|r| (r.number, r.place)))),
+    }
+}
+
+/// A verdict's sentence; and what is read of it must be the verdict.
+fn sentence(i: &mut In, o: &mut Out) -> R<()> {
+    let v = [i.u()?, i.u()?, i.u()?, i.u()?];
+    let mut text = [BYTE; 90];
+    let n = ours::verdict_write(v, &mut text).or_else(refused)?;
+    untouched(&text, n, BYTE)?;
+    short(n, BYTE, |out| ours::verdict_write(v, out).map(|_| ()))?;
+    o.bytes(&text[..n]);
+    match ours::verdict_read(&text[..n]) {
+        Ok(back) if back == v => Ok(()),
+        other => Err(format!("{v:?} was written, and read as {other:?}")),
     }
 }
 
@@ -302,6 +311,15 @@ pub fn one(op: &str, i: &mut In, o: &mut Out) -> R<()> {
             indexed(&m, &w, &q, o)
         }
         "probes" => probes(i, o),
+        "sentence" => sentence(i, o),
+        "read_sentence" => {
+            let a = match ours::verdict_read(&i.bytes()?) {
+                Ok([kind, a, b, c]) => [0, kind, a, b, c],
+                Err(r) => [r.number, r.place, 0, 0, 0],
+            };
+            a.iter().for_each(|&w| o.u(w));
+            Ok(())
+        }
         _ => Err(format!("no operation {op}")),
     }
 }

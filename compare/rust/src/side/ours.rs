@@ -52,6 +52,8 @@ mod c {
             spans: *const u32, spans_len: usize, index: *const u32, index_len: usize, points: *const f32, points_len: usize,
             records: *mut u32, records_len: usize,
         ) -> u64;
+        pub fn rs_verdict_write(kind: u32, place: u32, index: u32, vertex_count: u32, text: *mut u8, text_len: usize) -> u64;
+        pub fn rs_verdict_read(text: *const u8, text_len: usize, place: *mut u32, index: *mut u32, vertex_count: *mut u32) -> u64;
         pub fn rs_surface_read(bytes: *const u8, bytes_len: usize, held: *mut u32, held_len: usize) -> u64;
         pub fn rs_surface_write(held: *const u32, held_len: usize, bytes: *mut u8, bytes_len: usize) -> u64;
         pub fn rs_report(bytes: *const u8, bytes_len: usize, text: *mut u8, text_len: usize) -> u64;
@@ -242,13 +244,26 @@ macro_rules! mesh {
 
 /// The kind and three counts; a count that the kind does not tell must be left as it was, and is 0 here.
 pub fn validate(m: &Lists) -> Result<[u32; 4], Refused> {
+    verdict(|place, index, vertices| mesh!(rs_validate, m, place, index, vertices))
+}
+
+fn verdict(call: impl FnOnce(*mut u32, *mut u32, *mut u32) -> u64) -> Result<[u32; 4], Refused> {
     let mut a = [BEFORE; 3];
     let [place, index, vertices] = &mut a;
-    let kind = unwritten(told(mesh!(rs_validate, m, place, index, vertices)), &a)?;
+    let kind = unwritten(told(call(place, index, vertices)), &a)?;
     let told = [0, 0, 1, 3, 1][kind];
     assert!(a[told..].iter().all(|&w| w == BEFORE), "verdict {kind} wrote {a:x?}");
     a[told..].fill(0);
     Ok([kind as u32, a[0], a[1], a[2]])
+}
+
+pub fn verdict_write([kind, a, b, c]: [u32; 4], text: &mut [u8]) -> Result<usize, Refused> {
+    told(unsafe { c::rs_verdict_write(kind, a, b, c, text.as_mut_ptr(), text.len()) })
+}
+
+/// The kind and three counts, as of `validate`.
+pub fn verdict_read(text: &[u8]) -> Result<[u32; 4], Refused> {
+    verdict(|place, index, vertices| unsafe { c::rs_verdict_read(text.as_ptr(), text.len(), place, index, vertices) })
 }
 
 /// Where the count is 1 the record must say so, and where it is 0 be zeros.

@@ -1,8 +1,9 @@
-//! Bad lists. The Rust has no refusals, so what a call must answer is worked out here from document 01's table, list by
+//! Bad lists. The Rust has no refusals, so what a call must answer is worked out here from the documents' table, list by
 //! list and run by run; the library must give that number and place and leave all lent memory as it was.
 use crate::answers::head_fault;
 use crate::ours::{self, GridLists, LaneLists, Lists, Refused};
 use oracle::gen::Rng;
+use oracle::sentence::{sentence, verdict};
 
 type Fault = Option<Refused>;
 
@@ -162,7 +163,7 @@ fn lanes(r: &mut Rng) -> LaneLists {
 
 // ---- the calls
 
-pub const CALLS: &[&str] = &["height", "ring", "ear_clip", "junction_mesh", "surface_mesh", "validate", "height_at", "build", "top", "tops"];
+pub const CALLS: &[&str] = &["height", "ring", "ear_clip", "junction_mesh", "surface_mesh", "validate", "height_at", "build", "top", "tops", "verdict_write"];
 
 const FLOAT: f32 = 77.25;
 const WORD: u32 = 0xdead_beef;
@@ -242,6 +243,20 @@ pub fn case(call: &str, seed: u64, k: u64) -> Case {
             let (mut i, mut s) = (vec![WORD; r.below(100)], vec![WORD; r.below(30)]);
             let said = ours::surface_mesh(&l, &mut v, &mut n, &mut i, &mut s).err();
             Case { wanted: lane_fault(&l), whole: false, said, kept: kept(&v, FLOAT) && kept(&n, FLOAT) && kept(&i, WORD) && kept(&s, WORD) }
+        }
+        "verdict_write" => {
+            let mut odd = |n: usize| if r.once(3) { r.next() as u32 } else { r.below(n) as u32 };
+            let v = [odd(6), odd(2), odd(2), odd(2)];
+            let uses = [0, 0, 1, 3, 1].get(v[0] as usize).copied();
+            let no = |place: u32| Some(Refused { number: 6, place });
+            let wanted = uses.map_or(no(0), |n| (n..3).find(|&k| v[1 + k] != 0).and_then(|k| no(1 + k as u32)));
+            let mut text = vec![0xa5; r.below(90)];
+            let wanted = wanted.or_else(|| {
+                let s = sentence(&verdict(v[0], [v[1], v[2], v[3]]).expect("a verdict"));
+                is(text.len() < s.len(), 3, s.len() as u32)
+            });
+            let said = ours::verdict_write(v, &mut text).err();
+            Case { wanted, whole: true, said, kept: kept(&text, 0xa5) }
         }
         _ => of_mesh(call, r),
     }

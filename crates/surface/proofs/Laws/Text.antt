@@ -13,6 +13,15 @@ digits_few (suc k) n = go (ltb n 10) (digits_few k (n / 10))
     go true h = omega arith
     go false h = rw length-append (omega arith)
 
+pub digits_some : (k n : ℕ) → 0 < length (digits_of k n)
+unfolding digits_of
+digits_some zero n = omega arith
+digits_some (suc k) n = go (ltb n 10)
+  where
+    go : (b : Bool) → 0 < length (cond b (digit n ∷ []) (digits_of k (n / 10) ++ digit (n % 10) ∷ []))
+    go true = omega arith
+    go false = rw length-append (omega arith)
+
 pub hex_eight : (w : ℕ) → length (hexadecimal w) ≡ 8
 unfolding hexadecimal
 hex_eight w = refl
@@ -45,13 +54,24 @@ refused_few n p = simp length-append (omega (arith, digits_few 9 n, digits_few 9
 -- ---- how long they are
 
 -- a number that has room in k digits is the same in one more
-digits_same : (k n : ℕ) → n < 10 ^ suc k → digits_of (suc k) n ≡ digits_of k n
+pub digits_same : (k n : ℕ) → n < 10 ^ suc k → digits_of (suc k) n ≡ digits_of k n
 unfolding digits_of
 digits_same zero n h = let e : 10 ^ suc zero ≡ 10 = refl in rw (lt-ltb n 10 (omega arith))
 digits_same (suc k) n h =
     let e : 10 ^ suc (suc k) ≡ 10 ^ suc k * 10 = pow-suc 10 (suc k) in
     let b : n / 10 < 10 ^ suc k = omega arith in
     ap (λ (xs : List ℕ). cond (ltb n 10) (digit n ∷ []) (xs ++ digit (n % 10) ∷ [])) (digits_same k (n / 10) b)
+
+-- a number below ten is one digit
+pub digits_one : (k n : ℕ) → n < 10 → digit n ∷ [] ≡ digits_of k n
+unfolding digits_of
+digits_one zero n h = refl
+digits_one (suc k) n h = rw (lt-ltb n 10 h)
+
+-- a number that has two digits or more is what comes before its last digit, and that
+pub digits_more : (k n : ℕ) → 10 ≤ n → digits_of (suc k) n ≡ digits_of k (n / 10) ++ digit (n % 10) ∷ []
+unfolding digits_of
+digits_more k n h = rw (le-ltb n 10 h)
 
 -- the length of a number in decimal: one digit, and one more than without the last
 pub decimal_one : (n : ℕ) → n < 10 → length (digits_of 9 n) ≡ 1

@@ -1,8 +1,8 @@
 -- `surface::text::put_decimal` meets its contract. Assumes nothing.
 use Rattle.std.proofs.Common.{◌/◌, ◌<◌, arith}
 use Rattle.shape.proofs.Laws.Memory.{put_length}
-use Rattle.surface.proofs.Laws.Text.{decimal_one, decimal_more}
-use Rattle.surface.proofs.Texts.{digits_one, digits_last}
+use Rattle.surface.proofs.Laws.Text.{decimal_one, decimal_more, digits_one}
+use Rattle.surface.proofs.Texts.{digits_last}
 use Rattle.surface.proofs.text.+put_decimal.Goals as goal
 
 pub put-requires : goal.put-requires
