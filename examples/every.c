@@ -70,10 +70,15 @@ int main(void)
     count("rs_tops", rs_tops_of(&mesh, index, words, wheels, 2, records, 2));
     printf("found %u and %u\n", (unsigned)records[0], (unsigned)records[8]);
 
-    uint32_t held[8] = {1}, back[8];
+    /* a triangle of lane 0, held and in a file; then one of the lane that no file has */
+    uint32_t held[8] = {2, 0, 1, 2, 0, 0, 0, 1}, back[8];
     uint8_t bytes[32], text[64];
     count("rs_surface_write", rs_surface_write(held, 8, bytes, 32));
+    printf("word 4 %u, word 7 %u\n", (unsigned)bytes[16], (unsigned)bytes[28]);
     count("rs_surface_read", rs_surface_read(bytes, 32, back, 8));
+    printf("word 4 %u, word 7 %u\n", (unsigned)back[4], (unsigned)back[7]);
+    held[4] = UINT32_MAX;
+    count("rs_surface_write", rs_surface_write(held, 8, bytes, 32));
     uint32_t letters = count("rs_report", rs_report(bytes, 32, text, 64));
     printf("%.*s", (int)letters, (const char *)text);
     return 0;

@@ -85,10 +85,15 @@ fn main() {
     told("rs_tops", tops(mesh, &index[..words], &[5.0, 1.0, 5.0, 9.0], &mut records), |&n| n);
     println!("found {} and {}", found(&record(&records, 0).unwrap()), found(&record(&records, 1).unwrap()));
 
-    let (held, mut back, mut bytes, mut text) = ([1, 0, 0, 0, 0, 0, 0, 0], [0; 8], [0; 32], [0; 64]);
+    // a triangle of lane 0, held and in a file; then one of the lane that no file has
+    let (mut held, mut back, mut bytes, mut text) = ([2, 0, 1, 2, 0, 0, 0, 1], [0; 8], [0; 32], [0; 64]);
     told("rs_surface_write", surface_write(&held, &mut bytes), |&n| n);
+    println!("word 4 {}, word 7 {}", bytes[16], bytes[28]);
     told("rs_surface_read", surface_read(&bytes, &mut back), |&n| n);
+    println!("word 4 {}, word 7 {}", back[4], back[7]);
     assert_eq!(held, back);
+    held[4] = u32::MAX;
+    told("rs_surface_write", surface_write(&held, &mut bytes), |&n| n);
     let letters = told("rs_report", report(&bytes, &mut text), |&n| n).unwrap();
     print!("{}", String::from_utf8_lossy(&text[..letters]));
 }

@@ -5,7 +5,8 @@
 /* What a record says of wheel k: a height, none, or why this wheel was turned back. */
 static void wheel(unsigned k, const uint32_t *r)
 {
-    if (r[0] == RS_FOUND) printf("%u: height %g, lane %u\n", k, RS_SINGLE(r[1]), (unsigned)r[7]);
+    if (r[0] == RS_FOUND && r[6]) printf("%u: height %g, lane %u\n", k, RS_SINGLE(r[1]), (unsigned)r[7]);
+    else if (r[0] == RS_FOUND) printf("%u: height %g, no lane\n", k, RS_SINGLE(r[1]));
     else if (r[0] == RS_REFUSED) printf("%u: refused %u at %u\n", k, (unsigned)r[1], (unsigned)r[2]);
     else printf("%u: none\n", k);
 }

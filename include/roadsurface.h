@@ -43,7 +43,7 @@
  * and y. Limits: 4,096 points, tangents, widths or banks of a lane, 1,024 lanes; 256 segments and 4,096
  * points of a boundary; 1,024 points of a ring to clip; 1,024 grid rows of 1,024 heights a side; a mesh of
  * 65,536 vertices, 65,536 normals, 196,608 indices and 1,024 spans; an index of 4,194,304 words; a surface
- * file of 2,048 records.
+ * file of 2,048 records and lanes up to 4,294,967,294.
  *
  * What is trusted. The floating-point environment is the usual one: rounding to nearest, ties to even;
  * subnormals kept; no exception trapped. A program linked with -ffast-math may flush subnormals for the whole
@@ -244,9 +244,16 @@ uint64_t rs_verdict_write(
 uint64_t rs_verdict_read(
     const uint8_t *text, size_t text_count, uint32_t *place, uint32_t *index, uint32_t *vertex_count);
 
-/* A surface file's bytes as words, and back: records of eight words, little-endian in the file. A surface
- * that is written and read is the same, and so is a file that is read and written.
- * Refused: more than 2,048 records (RS_OVERSIZE, 2048); the first bad record (RS_BAD_RECORD); short output.
+/* A surface file's bytes as words, and back: records of eight words, little-endian in the file. Words are held as
+ * they stand in the file, but for a triangle's words 4 and 7:
+ *              word 4 in the file   word 7   word 4 held   word 7
+ *   a lane     its id plus one      0        its id        1
+ *   no lane    0                    0        0             0
+ * Lanes go from 0 to 4,294,967,294. Another word 7 makes a record bad, and so does, held, a
+ * word 4 that is not 0 with 0 in word 7. A surface
+ * that is written and read is the same, and so is a file that is read and written. docs/FORMAT.md has all words.
+ * Refused: more than 2,048 records (RS_OVERSIZE, 2048); the first bad record (RS_BAD_RECORD); by rs_surface_write a
+ * triangle of lane 4,294,967,295 (RS_OVERSIZE, 4294967294); short output.
  * Written: held (words), or bytes. Count: words, or bytes. */
 uint64_t rs_surface_read(const uint8_t *bytes, size_t bytes_count, uint32_t *held, size_t held_count);
 uint64_t rs_surface_write(const uint32_t *held, size_t held_count, uint8_t *bytes, size_t bytes_count);

@@ -450,12 +450,13 @@ pub fn validate(m: Mesh) -> Result<Verdict, Refusal> {
     told(code).map(|kind| Verdict::new(kind, place, index, vertices))
 }
 
-/// The words of a surface file: how many.
+/// The words that are held of a surface file: how many. A triangle has its lane's id in word 4 and 1 in word 7, or 0 in
+/// both for no lane.
 pub fn surface_read(bytes: &[u8], held: &mut [u32]) -> Result<usize, Refusal> {
     count(unsafe { raw::rs_surface_read(bytes.as_ptr(), bytes.len(), held.as_mut_ptr(), held.len()) })
 }
 
-/// The bytes of a surface that is held in words: how many.
+/// The surface file of held words: how many bytes. There a triangle has its lane's id plus one in word 4, or 0.
 pub fn surface_write(held: &[u32], bytes: &mut [u8]) -> Result<usize, Refusal> {
     count(unsafe { raw::rs_surface_write(held.as_ptr(), held.len(), bytes.as_mut_ptr(), bytes.len()) })
 }

@@ -5,6 +5,7 @@
 #![tactic(auto)]
 
 mod bytes;
+mod file_ops;
 mod grid_ops;
 mod junction_ops;
 mod lists;
@@ -12,7 +13,6 @@ mod lookup_ops;
 mod mesh_ops;
 mod ops;
 mod outline_ops;
-mod probe_ops;
 mod refused;
 mod verdict_ops;
 

@@ -1,5 +1,5 @@
 // The operations of all layers.
-use crate::{grid_ops, junction_ops, lookup_ops, mesh_ops, outline_ops, probe_ops, verdict_ops};
+use crate::{file_ops, grid_ops, junction_ops, lookup_ops, mesh_ops, outline_ops, verdict_ops};
 use shape::elevation::{height, height_at};
 use std::fmt;
 use stored::answer::Answer;
@@ -35,6 +35,8 @@ pub enum UpperOp {
     Planted,
     Sentence,
     ReadSentence,
+    Held,
+    File,
 }
 
 impl TryFrom<u32> for UpperOp {
@@ -63,6 +65,8 @@ impl TryFrom<u32> for UpperOp {
             45 => UpperOp::Planted,
             46 => UpperOp::Sentence,
             47 => UpperOp::ReadSentence,
+            48 => UpperOp::Held,
+            49 => UpperOp::File,
             _ => return Err(UnknownOp(number)),
         })
     }
@@ -92,6 +96,8 @@ impl fmt::Display for UpperOp {
             UpperOp::Planted => "planted",
             UpperOp::Sentence => "sentence",
             UpperOp::ReadSentence => "read_sentence",
+            UpperOp::Held => "held",
+            UpperOp::File => "file",
         })
     }
 }
@@ -116,13 +122,15 @@ impl UpperOp {
             UpperOp::Sampler => lookup_ops::build_case(case, answer),
             UpperOp::Indexed => lookup_ops::indexed_case(lookup_ops::singly, case, answer),
             UpperOp::LookupWords => lookup_ops::words_case(lookup_ops::singly, case, answer),
-            UpperOp::Probes => probe_ops::probe_case(case, answer),
+            UpperOp::Probes => file_ops::probe_case(case, answer),
             UpperOp::Tops => lookup_ops::indexed_case(lookup_ops::at_once, case, answer),
             UpperOp::TopsWords | UpperOp::Planted => {
                 lookup_ops::words_case(lookup_ops::at_once, case, answer)
             }
             UpperOp::Sentence => verdict_ops::sentence_case(case, answer),
             UpperOp::ReadSentence => verdict_ops::read_case(case, answer),
+            UpperOp::Held => file_ops::held_case(case, answer),
+            UpperOp::File => file_ops::file_case(case, answer),
         }
     }
 }

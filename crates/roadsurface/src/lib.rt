@@ -459,7 +459,7 @@ pub extern "C" fn rs_verdict_read(
     tell_verdict(found, place, index, vertex_count)
 }
 
-// The words of a surface file: how many.
+// The words that are held of a surface file: how many.
 #[unsafe(no_mangle)]
 pub extern "C" fn rs_surface_read(bytes: &[u8], held: &mut [u32]) -> u64
     ensures result_value { let a = read_of bytes.now (length held.old) in result ≡ code_of (λ n. n) a }
@@ -469,7 +469,7 @@ pub extern "C" fn rs_surface_read(bytes: &[u8], held: &mut [u32]) -> u64
     tell_count(copied)
 }
 
-// The bytes of a surface that is held in words: how many.
+// The surface file of held words: how many bytes.
 #[unsafe(no_mangle)]
 pub extern "C" fn rs_surface_write(held: &[u32], bytes: &mut [u8]) -> u64
     ensures result_value { let a = write_of held.now (length bytes.old) in result ≡ code_of (λ n. n) a }

@@ -1,4 +1,5 @@
 -- Laws about the definitions, for the proofs here and in the crates above.
+pub mod Lane
 pub mod File
 pub mod Records
 pub mod Held

@@ -33,6 +33,14 @@ no_lane : lane_text None ≡ ascii " lane -"
 unfolding lane_text
 no_lane = refl
 
+first_lane : lane_text (Some 0) ≡ ascii " lane 0"
+unfolding lane_text digits_of
+first_lane = refl
+
+last_lane : lane_text (Some 4294967294) ≡ ascii " lane 4294967294"
+unfolding lane_text digits_of
+last_lane = refl
+
 largest : decimal 4294967295 ≡ ascii "4294967295"
 unfolding digits_of
 largest = refl

@@ -26,7 +26,6 @@ use Rattle.surface.specs.Held.{count_kind, points_of}
 use Rattle.surface.specs.Text.{refused_line}
 use Rattle.surface.specs.Report.{mesh_in, index_in, lines_of, or_refused, report_of, report_answer}
 use Rattle.surface.specs.ReportSteps.{Says, records_in, surface_text}
-use Rattle.surface.proofs.Laws.File.{whole_file}
 use Rattle.surface.proofs.Laws.Report.{kind_most, build_fine, size_refused, built_size, all_taken, records_are, report_taken}
 use Rattle.shape.proofs.Laws.Refusal.{none_told}
 use Rattle.surface.proofs.Copies.{leaves_put}
@@ -174,12 +173,12 @@ module _ (bs : List ℕ) {f : Result Unit Refusal} (g : found f ≡ file_fault b
     file_refused = rw was
 
   module _ (z : f ≡ Ok tt) where
-    pub file_few : length bs ≤ 65536
-    file_few = (whole_file bs (none_told g z)).1
+    pub file_sound : file_fault bs ≡ fine
+    file_sound = none_told g z
 
     pub file_text : surface_text (words_of bs) ≡ report_of bs
     unfolding report_of surface_text judge
-    file_text = rw (none_told g z)
+    file_text = rw file_sound
 
 -- ---- what is said of a text, and what is left of it
 

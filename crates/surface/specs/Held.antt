@@ -1,13 +1,14 @@
--- Document 01, "Surface file and `probe`": the mesh and the questions that held words stand for. "Floats by their bits." Definitions only. Assumes
--- nothing.
-use Rattle.std.specs.Prelude.{Bool, cond, List, [], ◌∷◌, ℕ, zero, suc, ◌+◌, ◌/◌, eqb, Float, length, Option, Some, None}
+-- Document 01, "Surface file and `probe`", and of a triangle's lane document 02, "Lane 0 is a lane": the mesh and the questions that held words stand
+-- for. "Floats by their bits." Definitions only. Assumes nothing.
+use Rattle.std.specs.Prelude.{Bool, cond, List, [], ◌∷◌, ℕ, zero, suc, ◌+◌, ◌/◌, eqb, Float, length, Option}
 use Rattle.std.specs.Float.{binary32}
 use Rattle.std.specs.Float.Ieee.{of_bits}
 use Rattle.shape.specs.Gather.{gather}
 use Rattle.shape.specs.Lists.{word_of}
 use Rattle.surface.specs.declared.held.Sizes.{Sizes}
 use Rattle.surface.specs.declared.held.Question.{Question}
-use Rattle.surface.specs.File.{vertex_kind, triangle_kind, question_kind}
+use Rattle.surface.specs.File.{vertex_kind, triangle_kind, question_kind, held_record}
+use Rattle.surface.specs.Lane.{lane_of_held}
 
 -- ---- the words of a record as it is held, of which word 0 is the kind; of three or two in a row the first
 
@@ -21,9 +22,6 @@ normal_word = 4
 -- of a triangle
 abbrev pub corners_word : ℕ
 corners_word = 1
-
-abbrev pub lane_word : ℕ
-lane_word = 4
 
 -- of a question: x and y
 abbrev pub point_word : ℕ
@@ -102,10 +100,10 @@ unfoldable pub indices_in : List ℕ → List ℕ
 unfolding gather corners_in count_kind
 indices_in ws = gather (corners_in ws) (count_kind ws triangle_kind)
 
--- the lane id of triangle t: the word is 0 where there is none
+-- the lane of triangle t
 unfoldable pub lane_in : List ℕ → ℕ → Option ℕ
-unfolding triangle_record word_of
-lane_in ws t = let id = word ws (triangle_record ws t) lane_word in cond (eqb id 0) None (Some id)
+unfolding triangle_record held_record lane_of_held
+lane_in ws t = lane_of_held (held_record ws (triangle_record ws t))
 
 -- question k
 unfoldable pub question_at : List ℕ → ℕ → Question

@@ -1,4 +1,5 @@
--- The definitions: a file for each part of document 01's "Surface file and `probe`", and those of document 02's "The verdict as a sentence".
+-- The definitions: a file for each part of document 01's "Surface file and `probe`", and for each of document 02's requests that has its own.
+pub mod Lane
 pub mod File
 pub mod Kind
 pub mod FileSteps

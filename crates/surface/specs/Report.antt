@@ -11,7 +11,7 @@ use Rattle.surface.specs.Text.{found_line, none_line, asked_line, refused_line}
 
 -- ---- the answers to the questions of held words
 
--- the mesh. A file has no spans: the lane is word 4 of a triangle
+-- the mesh. A file has no spans: a triangle's own words tell its lane
 unfoldable pub mesh_in : List ℕ → Mesh
 unfolding vertices_in normals_in indices_in
 mesh_in ws = mesh_lists (vertices_in ws) (normals_in ws) (indices_in ws) []
@@ -37,7 +37,7 @@ answered miss = false
 
 -- ---- the text
 
--- the line of question k; "the lane is word 4"
+-- the line of question k, with the lane of the triangle that was found
 unfoldable pub line_of : List ℕ → ℕ → Sample → List ℕ
 unfolding found_line none_line lane_in
 line_of ws k (hit height normal triangle detail) = found_line k height normal triangle (lane_in ws triangle)

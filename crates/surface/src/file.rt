@@ -1,6 +1,6 @@
 // The surface file. A file is bytes and a held surface is words, eight to a record; both are judged by
-// one rule and are turned into each other, record by record.
-ghost use Rattle.std.specs.Prelude.{◌≡◌, not, ◌&&◌, ℕ, ◌+◌, ◌*◌, ◌/◌, ◌%◌, ◌≤◌, ◌<◌, eqb, List, [], length, get_or};
+// one rule and are turned into each other, record by record. They differ in how a triangle tells its lane.
+ghost use Rattle.std.specs.Prelude.{◌≡◌, false, not, ◌&&◌, ℕ, ◌+◌, ◌*◌, ◌/◌, ◌%◌, ◌≤◌, ◌<◌, eqb, List, [], length, get_or};
 ghost use Rattle.shape.specs.Gather.{any};
 ghost use Rattle.shape.specs.Memory.{Put};
 ghost use Rattle.shape.specs.Refusal.{found, told, leaves};
@@ -11,12 +11,17 @@ ghost use Rattle.surface.specs.File.{
   decode,
   encode,
   kind_of,
+  by_kind,
   spare,
   spare_used,
+  bad_lane,
   bad_at,
   parts,
+  held_of,
+  file_of,
   held_record,
   file_record,
+  past_at,
   held_fault,
   file_fault,
   surface_fault,
@@ -25,6 +30,7 @@ ghost use Rattle.surface.specs.File.{
   read_of,
   write_of,
 };
+ghost use Rattle.surface.specs.Lane.{with_pair, lane_of_word, lane_of_held, past_greatest, bad_pair};
 ghost use Rattle.surface.specs.Kind.{kind_from, number, number_before};
 ghost use Rattle.surface.specs.FileSteps.{sound_kind, count_in, whole_in, record_in, first_of};
 
@@ -95,6 +101,90 @@ fn put_file(bytes: &mut [u8], at: usize, r: Record)
     }
 }
 
+// ---- the lane of a triangle
+
+// The words of a triangle's record that tell it.
+pub(crate) const LANE: usize = 4;
+
+const NAMED: usize = 7;
+
+// The greatest id that a file has a word for.
+const GREATEST_ID: u32 = u32::MAX - 1;
+
+// The lane that the word tells in a file: the word is the id plus one, or 0 for none.
+#[tactic(auto, unfolding(crate::specs::Lane::lane_of_word))]
+pub(crate) fn file_lane(word: u32) -> Option<u32>
+    ensures { result ≡ lane_of_word word }
+{
+    word.checked_sub(1)
+}
+
+impl Record {
+    // The lane by a held triangle's record: the id, with 1 in word 7.
+    #[tactic(auto, unfolding(crate::specs::Lane::lane_of_held))]
+    fn held_lane(self) -> Option<u32>
+        ensures { result ≡ lane_of_held self.words }
+    {
+        (self.words[NAMED] == 1).then_some(self.words[LANE])
+    }
+
+    // Do a held triangle's words tell neither a lane nor none: are they neither an id and 1 nor 0 and 0?
+    #[tactic(auto, unfolding(crate::specs::Lane::bad_pair))]
+    fn bad_pair(self) -> bool
+        ensures { result ≡ bad_pair self.words }
+    {
+        !matches!((self.words[LANE], self.words[NAMED]), (_, 1) | (0, 0))
+    }
+
+    // The record with these words of a lane.
+    #[tactic(auto, unfolding(crate::specs::Lane::with_pair))]
+    fn with_pair(mut self, lane: u32, named: u32) -> Record
+        ensures { result.words ≡ with_pair lane named self.words }
+    {
+        self.words[LANE] = lane;
+        self.words[NAMED] = named;
+        self
+    }
+
+    // A record of a file, as it is held.
+    #[tactic(auto, using(crate::proofs::Laws::Lane::held_other, crate::proofs::Laws::Lane::held_named, crate::proofs::Laws::Lane::held_none), unfolding(crate::specs::Kind::number))]
+    fn held(self) -> Record
+        ensures { result.words ≡ held_of (kind_of self.words) self.words }
+    {
+        if self.words[0] != Kind::Triangle.number() {
+            return self;
+        }
+        match file_lane(self.words[LANE]) {
+            Some(id) => self.with_pair(id, 1),
+            None => self.with_pair(0, 0),
+        }
+    }
+
+    // Is the id of this held record's lane past the greatest, if it is a triangle's?
+    #[tactic(auto, unfolding(crate::specs::Kind::number, crate::specs::File::by_kind, crate::specs::Lane::past_greatest))]
+    fn past_greatest(self) -> bool
+        ensures { result ≡ by_kind (kind_of self.words) false (past_greatest (lane_of_held self.words)) false }
+    {
+        self.words[0] == Kind::Triangle.number()
+            && self.held_lane().is_some_and(|id| GREATEST_ID < id)
+    }
+
+    // A held record, as it stands in a file.
+    #[tactic(auto, using(crate::proofs::Laws::Lane::filed_other, crate::proofs::Laws::Lane::filed_named, crate::proofs::Laws::Lane::filed_none, crate::proofs::Laws::Lane::named_within), unfolding(crate::specs::Kind::number))]
+    fn filed(self) -> Record
+        requires { by_kind (kind_of self.words) false (past_greatest (lane_of_held self.words)) false ≡ false }
+        ensures { result.words ≡ file_of (kind_of self.words) self.words }
+    {
+        if self.words[0] != Kind::Triangle.number() {
+            return self;
+        }
+        match self.held_lane() {
+            Some(id) => self.with_pair(id + 1, 0),
+            None => self.with_pair(0, 0),
+        }
+    }
+}
+
 // ---- records one after another
 
 // The records of a surface, in the form that they are lent in.
@@ -118,6 +208,16 @@ trait Records: Copy {
     fn record(self, k: usize) -> Record
         requires { k < whole_in form (bytes self) (held self) }
         ensures { result.words ≡ record_in form (bytes self) (held self) k };
+
+    // Has a record of this kind no use for its word j?
+    fn spare(kind: Kind, j: usize) -> bool
+        requires { j < 8 }
+        ensures { result ≡ spare form (number kind) j };
+
+    // Do the words of its lane tell neither a lane nor none, if it is a triangle's?
+    fn bad_lane(kind: Kind, r: Record) -> bool
+        requires { number kind ≡ kind_of r.words }
+        ensures { result ≡ bad_lane form r.words };
 }
 
 // The bytes of a file, 32 to a record.
@@ -150,6 +250,25 @@ impl Records for FileBytes<'_> {
             words: from_fn(|j| word_at(bytes, j)),
         }
     }
+
+    #[tactic(auto, using(crate::proofs::Laws::Records::spare_vertex, crate::proofs::Laws::Records::spare_triangle, crate::proofs::Laws::Records::spare_question), unfolding(crate::specs::Kind::number))]
+    fn spare(kind: Kind, j: usize) -> bool
+        requires { j < 8 }
+        ensures { result ≡ spare File (number kind) j }
+    {
+        match kind {
+            Kind::Vertex => j == 7,
+            Kind::Triangle => 4 < j,
+            Kind::Question => 2 < j,
+        }
+    }
+
+    #[tactic(auto, unfolding(crate::specs::File::bad_lane))]
+    fn bad_lane(_kind: Kind, r: Record) -> bool
+        ensures { result ≡ bad_lane File r.words }
+    {
+        false
+    }
 }
 
 // Words as they are held, eight to a record.
@@ -181,22 +300,29 @@ impl Records for HeldWords<'_> {
             words: self.words.as_chunks().0[k],
         }
     }
+
+    // As in a file, but for word 7 of a triangle.
+    #[tactic(auto, using(crate::proofs::Laws::Records::spare_held, crate::proofs::Laws::Records::spare_same), unfolding(crate::specs::Kind::number))]
+    fn spare(kind: Kind, j: usize) -> bool
+        requires { j < 8 }
+        ensures { result ≡ spare Held (number kind) j }
+    {
+        match kind {
+            Kind::Triangle => 4 < j && j != NAMED,
+            _ => FileBytes::spare(kind, j),
+        }
+    }
+
+    #[tactic(auto, unfolding(crate::specs::File::bad_lane, crate::specs::File::by_kind, crate::specs::Kind::number))]
+    fn bad_lane(kind: Kind, r: Record) -> bool
+        requires { number kind ≡ kind_of r.words }
+        ensures { result ≡ bad_lane Held r.words }
+    {
+        kind == Kind::Triangle && r.bad_pair()
+    }
 }
 
 // ---- how they are judged
-
-// Has a record of this kind no use for its word j?
-#[tactic(auto, using(crate::proofs::Laws::Records::spare_vertex, crate::proofs::Laws::Records::spare_triangle, crate::proofs::Laws::Records::spare_question), unfolding(crate::specs::Kind::number))]
-fn spare<R: Records>(kind: Kind, j: usize) -> bool
-    requires { j < 8 }
-    ensures { result ≡ spare R.form (number kind) j }
-{
-    match kind {
-        Kind::Vertex => j == 7,
-        Kind::Triangle => 4 < j,
-        Kind::Question => 2 < j,
-    }
-}
 
 // Is a spare word of a record of this kind used?
 #[tactic(auto, using(shape::proofs::Laws::Gather::any_next, shape::proofs::Laws::Gather::any_some), unfolding(shape::specs::Gather::any, crate::specs::File::spare_used))]
@@ -205,7 +331,7 @@ fn spare_used<R: Records>(kind: Kind, r: Record) -> bool
     ensures { result ≡ any (spare_used R.form r.words) 8 }
 {
     for j in 0..8 {
-        if spare::<R>(kind, j) && r.words[j] != 0 {
+        if R::spare(kind, j) && r.words[j] != 0 {
             return true;
         }
     }
@@ -218,7 +344,7 @@ fn sound_kind<R: Records>(r: Record, last: Option<Kind>) -> Option<Kind>
     ensures { result ≡ kind_from (sound_kind R.form r.words (number_before last)) }
 {
     let kind = Kind::of(r.words[0])?;
-    if Some(kind) < last || spare_used::<R>(kind, r) {
+    if Some(kind) < last || spare_used::<R>(kind, r) || R::bad_lane(kind, r) {
         return None;
     }
     Some(kind)
@@ -271,25 +397,40 @@ pub fn file_fault(bytes: &[u8]) -> Result<(), Refusal>
 
 // ---- the calls
 
-// The words held of a file, to the front of `held`: a record of any kind is held as it stands in the file.
+// The words held of a file, to the front of `held`.
 fn copy_words(bytes: &[u8], held: &mut [u32])
     requires { (length bytes.now % 32 ≡ 0) × (length bytes.now / 4 ≤ length held.old) }
     ensures { Put held.old held.new 0 (words_of bytes.now) (length bytes.now / 4) }
 {
     let file = FileBytes { bytes };
     for k in 0..file.whole() {
-        put(held, 8 * k, &file.record(k).words);
+        put(held, 8 * k, &file.record(k).held().words);
     }
+}
+
+// Has a file no word for the lane of some held triangle?
+#[tactic(auto, using(shape::proofs::Laws::Gather::any_next, shape::proofs::Laws::Gather::any_some), unfolding(shape::specs::Gather::any, crate::specs::File::past_at, crate::specs::FileSteps::whole_in, crate::specs::FileSteps::record_in))]
+fn past_greatest(held: &[u32]) -> bool
+    ensures { result ≡ any (past_at held.now) (length held.now / 8) }
+{
+    let surface = HeldWords { words: held };
+    for k in 0..surface.whole() {
+        if surface.record(k).past_greatest() {
+            return true;
+        }
+    }
+    false
 }
 
 // The file's bytes of held words, to the front of `bytes`.
 fn copy_bytes(held: &[u32], bytes: &mut [u8])
-    requires { (length held.now % 8 ≡ 0) × (4 * length held.now ≤ length bytes.old) }
+    requires room { (length held.now % 8 ≡ 0) × (4 * length held.now ≤ length bytes.old) }
+    requires ids { any (past_at held.now) (length held.now / 8) ≡ false }
     ensures { Put bytes.old bytes.new 0 (bytes_of held.now) (4 * length held.now) }
 {
     let surface = HeldWords { words: held };
     for k in 0..surface.whole() {
-        put_file(bytes, 32 * k, surface.record(k));
+        put_file(bytes, 32 * k, surface.record(k).filed());
     }
 }
 
@@ -313,6 +454,7 @@ pub fn write(held: &[u32], bytes: &mut [u8]) -> Result<usize, Refusal>
     ensures bytes_after { bytes.new ≡ leaves (write_of held.now (length bytes.old)) (bytes_of held.now) bytes.old }
 {
     held_fault(held)?;
+    refuse_if(past_greatest(held), Refusal::Oversize(GREATEST_ID as usize))?;
     let wanted = 4 * held.len();
     refuse_if(bytes.len() < wanted, Refusal::ShortOutput(wanted))?;
     copy_bytes(held, bytes);

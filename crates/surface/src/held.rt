@@ -1,25 +1,25 @@
-// The mesh and the questions that a file stands for, read straight from its bytes.
+// The mesh and the questions that a file stands for, read straight from its bytes: as a sound file is held,
+// all words are the same but those of a lane.
 ghost use Rattle.std.specs.Prelude.{◌≡◌, ◌+◌, ◌*◌, ◌/◌, ◌^◌, ◌≤◌, ◌<◌, length};
 ghost use Rattle.shape.specs.Gather.{gather};
 ghost use Rattle.shape.specs.Memory.{Put};
 ghost use Rattle.shape.specs.Lists.{word_of};
-ghost use Rattle.surface.specs.File.{vertex_kind, words_of};
+ghost use Rattle.shape.specs.Refusal.{fine};
+ghost use Rattle.surface.specs.File.{vertex_kind, decode, words_of, file_fault};
 ghost use Rattle.surface.specs.Kind.{number};
 ghost use Rattle.surface.specs.Held.{count_kind, sizes_of, single_in, three_in, vertices_in, normals_in, indices_in, lane_in, question_at, points_of};
 
-use crate::file::{Kind, word_at};
+use crate::file::{Kind, LANE, file_lane, word_at};
 use crate::memory::put;
 use rounding::bits::from_bits32;
 
-// The words of a record as it is held, of three or two in a row the first: of a vertex, of a triangle, and
-// of a question.
+// The words of a record, in a file as it is held, of three or two in a row the first: of a vertex, of a
+// triangle, and of a question.
 const PLACE: usize = 1;
 
 const NORMAL: usize = 4;
 
 const CORNERS: usize = 1;
-
-const LANE: usize = 4;
 
 const POINT: usize = 1;
 
@@ -38,19 +38,19 @@ pub struct Question {
     pub y: f32,
 }
 
-// Word j of record k, 0 past the end.
-#[tactic(auto, using(crate::proofs::Laws::File::word_in))]
+// Word j of record k of the file, 0 past the end.
+#[tactic(auto, unfolding(shape::specs::Lists::word_of))]
 fn word(bytes: &[u8], k: usize, j: usize) -> u32
     requires { (k < 2 ^ 40) × (j < 8) }
-    ensures { result ≡ word_of 8 (words_of bytes.now) k j }
+    ensures { result ≡ word_of 8 (decode bytes.now) k j }
 {
     word_at(bytes, 8 * k + j)
 }
 
-// How many records are of this kind.
-#[tactic(auto, using(crate::proofs::Laws::File::words_length))]
+// How many records of a sound file are of this kind.
+#[tactic(auto, using(crate::proofs::Laws::File::words_length, crate::proofs::Laws::File::whole_file))]
 fn count_kind(bytes: &[u8], kind: Kind) -> usize
-    requires { length bytes.now ≤ 65536 }
+    requires { file_fault bytes.now ≡ fine }
     ensures { result ≡ count_kind (words_of bytes.now) (number kind) }
 {
     let mut found = 0;
@@ -60,11 +60,12 @@ fn count_kind(bytes: &[u8], kind: Kind) -> usize
     found
 }
 
-// A file of at most 2,048 records, and how many of each kind it has.
+// A sound file, and how many records of each kind it has.
 #[derive(Clone, Copy)]
 pub(crate) struct Surface<'a> {
     pub bytes: &'a [u8],
     pub sizes: Sizes,
+    ghost sound: { file_fault bytes.now ≡ fine },
     ghost few: { length (words_of bytes.now) ≤ 16384 },
     ghost sized: { sizes ≡ sizes_of (words_of bytes.now) },
     ghost within: { (sizes.vertices ≤ 2048) × (sizes.triangles ≤ 2048) × (sizes.questions ≤ 2048) },
@@ -73,10 +74,9 @@ pub(crate) struct Surface<'a> {
 impl<'a> Surface<'a> {
     ghost use Rattle.surface.specs.Lent.{words_in};
 
-    // A file that has no more records than the most.
-    #[tactic(auto, using(crate::proofs::Laws::File::words_length, crate::proofs::Laws::Report::kind_most), unfolding(crate::specs::Held::sizes_of, crate::specs::Kind::number))]
+    // A file that is not turned back.
     pub(crate) fn new(bytes: &'a [u8]) -> Surface<'a>
-        requires { length bytes.now ≤ 65536 }
+        requires { file_fault bytes.now ≡ fine }
         ensures { result.bytes.now ≡ bytes.now }
     {
         let sizes = Sizes {
@@ -87,11 +87,11 @@ impl<'a> Surface<'a> {
         Surface { bytes, sizes }
     }
 
-    // The single in word j of record k.
+    // The single in word j of record k of the file.
     #[tactic(auto, unfolding(crate::specs::Held::single_in))]
     fn single(self, k: usize, j: usize) -> f32
         requires { (k < 2 ^ 40) × (j < 8) }
-        ensures { result ≡ single_in (words_in self.entry) k j }
+        ensures { result ≡ single_in (decode self.entry.bytes.now) k j }
     {
         from_bits32(word(self.bytes, k, j))
     }
@@ -149,18 +149,17 @@ impl<'a> Surface<'a> {
 
     // ---- lanes and questions
 
-    // The lane id of triangle t, which is 0 where there is none.
-    #[tactic(auto, using(crate::proofs::Laws::Held::sized), unfolding(crate::specs::Held::lane_in, crate::specs::Held::triangle_record))]
+    // The lane of triangle t, if it has one.
+    #[tactic(auto, using(crate::proofs::Laws::Held::sized, crate::proofs::Laws::Held::lane_told), unfolding(crate::specs::Held::triangle_record))]
     pub(crate) fn lane_of(self, t: usize) -> Option<u32>
         requires { t < 2 ^ 32 }
         ensures { result ≡ lane_in (words_in self.entry) t }
     {
-        let id = word(self.bytes, self.sizes.vertices + t, LANE);
-        if id == 0 { None } else { Some(id) }
+        file_lane(word(self.bytes, self.sizes.vertices + t, LANE))
     }
 
     // Where question k asks.
-    #[tactic(auto, using(crate::proofs::Laws::Held::sized), unfolding(crate::specs::Held::question_at, crate::specs::Held::question_record))]
+    #[tactic(auto, using(crate::proofs::Laws::Held::sized, crate::proofs::Laws::Held::point_single), unfolding(crate::specs::Held::question_at, crate::specs::Held::question_record))]
     pub(crate) fn question_at(self, k: usize) -> Question
         requires { k < 2 ^ 32 }
         ensures { result ≡ question_at (words_in self.entry) k }

@@ -193,7 +193,7 @@ fn shapes(b: &Bench) {
 
 fn probes(b: &Bench) {
     let m = ops::surface_mesh(road_lanes(5, 100));
-    let mut file = surface::write(&surface::Surface { mesh: m.clone(), lanes: vec![5; 990], questions: Vec::new() });
+    let mut file = surface::write(&surface::Surface { mesh: m.clone(), lanes: vec![Some(5); 990], questions: Vec::new() }).expect("a file");
     for (x, y) in road_queries(&m, 58) {
         file.extend([3, x.to_bits(), y.to_bits(), 0, 0, 0, 0, 0].map(u32::to_le_bytes).concat());
     }

@@ -8,7 +8,7 @@ type R<T> = Result<T, String>;
 
 pub const OPS: &[&str] = &[
     "elevation_height", "elevation_height_at", "ring", "ear_clip", "junction_mesh", "surface_mesh", "validate", "height_at", "sampler",
-    "indexed", "lookup_words", "probes", "sentence", "read_sentence",
+    "indexed", "lookup_words", "probes", "held", "file", "sentence", "read_sentence",
 ];
 
 const FLOAT: f32 = f32::from_bits(0x4b12_3456);
@@ -216,30 +216,79 @@ fn probes(i: &mut In, o: &mut Out) -> R<()> {
     let k = ours::report(bytes, &mut text).or_else(refused)?;
     untouched(&text, k, BYTE)?;
     short(k, BYTE, |out| ours::report(bytes, out).map(|_| ()))?;
-    round_trip(bytes)?;
+    let _ = held_of(bytes)?;
     o.bytes(&text[..k]);
     Ok(())
 }
 
-/// A file that is taken, read and written, is the same bytes; one that is not is turned back as the oracle has it.
-fn round_trip(bytes: &[u8]) -> R<()> {
-    let mut held = vec![WORD; 16_384];
-    let theirs = oracle::surface::read(bytes);
-    match (ours::read(bytes, &mut held), theirs) {
-        (Ok(n), Ok(_)) => {
-            if n != bytes.len() / 4 {
-                return Err(format!("{n} words read of {} bytes", bytes.len()));
-            }
-            untouched(&held, n, WORD)?;
-            let mut back = vec![BYTE; bytes.len() + 5];
-            let k = ours::write(&held[..n], &mut back).or_else(refused)?;
-            if back[..k] != *bytes {
-                return Err("written back, the file differs".into());
-            }
-            untouched(&back, k, BYTE)
+/// What a call writes, or why it is turned back: with room to spare, with no more than it needs, with one element too few,
+/// and, where it is turned back, with no room, since that is looked at last.
+fn written<T: PartialEq + Copy>(
+    room: usize, pattern: T, call: impl Fn(&mut [T]) -> Result<usize, Refused>,
+) -> R<Result<Vec<T>, Refused>> {
+    let mut out = vec![pattern; room];
+    let n = match call(&mut out) {
+        Ok(n) => n,
+        Err(r) => {
+            untouched(&out, 0, pattern)?;
+            return match call(&mut []) {
+                Err(again) if again == r => Ok(Err(r)),
+                other => Err(format!("{r:?}, and with no room {other:?}")),
+            };
         }
-        (Err(a), Err(b)) if a.number == b.number && a.place == b.place => untouched(&held, 0, WORD),
-        (a, b) => Err(format!("read: {a:?}, and the oracle: {:?}", b.map(|_| ()).map_err(|r| (r.number, r.place)))),
+    };
+    untouched(&out, n, pattern)?;
+    out.truncate(n);
+    let mut just = vec![pattern; n];
+    match call(&mut just) {
+        Ok(again) if again == n && just == out => {}
+        other => return Err(format!("with room for {n} and no more: {other:?}, or another answer")),
+    }
+    short(n, pattern, |out| call(out).map(|_| ()))?;
+    Ok(Ok(out))
+}
+
+fn read(bytes: &[u8]) -> R<Result<Vec<u32>, Refused>> {
+    written(bytes.len() / 4 + 11, WORD, |out| ours::read(bytes, out))
+}
+
+fn write(held: &[u32]) -> R<Result<Vec<u8>, Refused>> {
+    written(4 * held.len() + 5, BYTE, |out| ours::write(held, out))
+}
+
+/// The words held of a file. A file that is taken, read and written, is the same bytes.
+fn held_of(bytes: &[u8]) -> R<Result<Vec<u32>, Refused>> {
+    let held = read(bytes)?;
+    if let Ok(words) = &held {
+        if write(words)?.as_deref() != Ok(bytes) {
+            return Err("written back, the file differs".into());
+        }
+    }
+    Ok(held)
+}
+
+/// The file of held words. Words that are taken, written and read, are the same.
+fn file_of(held: &[u32]) -> R<Result<Vec<u8>, Refused>> {
+    let file = write(held)?;
+    if let Ok(bytes) = &file {
+        if read(bytes)?.as_deref() != Ok(held) {
+            return Err("read back, the words differ".into());
+        }
+    }
+    Ok(file)
+}
+
+/// 0 and what is written, or the refusal.
+fn told<T>(o: &mut Out, said: Result<Vec<T>, Refused>, tell: impl FnOnce(&mut Out, &[T])) {
+    match said {
+        Ok(xs) => {
+            o.u(0);
+            tell(o, &xs);
+        }
+        Err(r) => {
+            o.u(r.number);
+            o.u(r.place);
+        }
     }
 }
 
@@ -311,6 +360,14 @@ pub fn one(op: &str, i: &mut In, o: &mut Out) -> R<()> {
             indexed(&m, &w, &q, o)
         }
         "probes" => probes(i, o),
+        "held" => {
+            told(o, held_of(&i.bytes()?)?, |o, words| o.list(words, |o, &w| o.u(w)));
+            Ok(())
+        }
+        "file" => {
+            told(o, file_of(&i.list(In::u)?)?, |o, bytes| o.bytes(bytes));
+            Ok(())
+        }
         "sentence" => sentence(i, o),
         "read_sentence" => {
             let a = match ours::verdict_read(&i.bytes()?) {

@@ -2,8 +2,9 @@
 //! list and run by run; the library must give that number and place and leave all lent memory as it was.
 use crate::answers::head_fault;
 use crate::ours::{self, GridLists, LaneLists, Lists, Refused};
-use oracle::gen::Rng;
+use oracle::gen::{self, Rng};
 use oracle::sentence::{sentence, verdict};
+use oracle::surface;
 
 type Fault = Option<Refused>;
 
@@ -163,7 +164,10 @@ fn lanes(r: &mut Rng) -> LaneLists {
 
 // ---- the calls
 
-pub const CALLS: &[&str] = &["height", "ring", "ear_clip", "junction_mesh", "surface_mesh", "validate", "height_at", "build", "top", "tops", "verdict_write"];
+pub const CALLS: &[&str] = &[
+    "height", "ring", "ear_clip", "junction_mesh", "surface_mesh", "validate", "height_at", "build", "top", "tops", "verdict_write",
+    "surface_read", "surface_write",
+];
 
 const FLOAT: f32 = 77.25;
 const WORD: u32 = 0xdead_beef;
@@ -258,7 +262,38 @@ pub fn case(call: &str, seed: u64, k: u64) -> Case {
             let said = ours::verdict_write(v, &mut text).err();
             Case { wanted, whole: true, said, kept: kept(&text, 0xa5) }
         }
+        "surface_read" => {
+            let bytes = gen::surface_file(r);
+            let mut held = vec![WORD; room(r, bytes.len() / 4)];
+            let said = ours::read(&bytes, &mut held).err();
+            let wanted = lacking(surface::read(&bytes).map(|_| bytes.len() / 4), held.len());
+            Case { wanted, whole: true, said, kept: kept(&held, WORD) }
+        }
+        "surface_write" => {
+            let held = gen::held_words(r);
+            let mut bytes = vec![0xa5; room(r, 4 * held.len())];
+            let said = ours::write(&held, &mut bytes).err();
+            let wanted = lacking(surface::read_held(&held).and_then(|s| surface::write(&s)).map(|file| file.len()), bytes.len());
+            Case { wanted, whole: true, said, kept: kept(&bytes, 0xa5) }
+        }
         _ => of_mesh(call, r),
+    }
+}
+
+/// Room for a result of this many elements, or not quite.
+fn room(r: &mut Rng, wanted: usize) -> usize {
+    match r.below(4) {
+        0 => wanted.saturating_sub(1),
+        1 => r.below(wanted + 1),
+        _ => wanted + r.below(9),
+    }
+}
+
+/// What the documents say of a call whose result has this many elements, or is turned back, where there is this much room.
+fn lacking(result: Result<usize, surface::Refusal>, room: usize) -> Fault {
+    match result {
+        Ok(n) => is(room < n, 3, n as u32),
+        Err(r) => Some(Refused { number: r.number, place: r.place }),
     }
 }
 

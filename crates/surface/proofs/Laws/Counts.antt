@@ -1,18 +1,14 @@
 -- The reader of counts takes exactly the decimals: a decimal to its end, every beginning of one, and nothing else. Assumes nothing.
-use Rattle.std.specs.Prelude.{◌≡◌, ℕ, zero, suc, ◌+◌, ◌-◌, ◌*◌, ◌/◌, ◌%◌, ◌^◌, ◌<◌, ◌≤◌, Bool, true, false, cond, ◌&&◌, ◌||◌, List, [], ◌∷◌, ◌++◌, ltb, leb, eqb, length, take, drop, refl}
+use Rattle.std.specs.Prelude.{◌≡◌, ℕ, zero, suc, ◌+◌, ◌-◌, ◌*◌, ◌/◌, ◌%◌, ◌^◌, ◌<◌, ◌≤◌, Bool, true, false, cond, ◌||◌, List, [], ◌∷◌, ◌++◌, ltb, leb, eqb, length, take, drop, refl}
 use Rattle.std.proofs.Common.{true≢false, sym, ap, ◌∙◌, arith, append_assoc, length-append, lt-ltb, le-leb, ltb-true, ltb-false, leb-true, eqb-true}
 use Rattle.std.proofs.Math.Seq.{drop-append_seam}
 use Rattle.std.proofs.Math.Bool.{or-true, false≢true}
 use Rattle.surface.specs.Text.{digit, digits_of, decimal}
 use Rattle.surface.proofs.Laws.Text.{digits_more, digits_one, digits_same}
+use Rattle.lookup.proofs.Laws.Parts.{both}
 use Rattle.surface.specs.Sentence.{Count, is_digit, goes_on, read_from, read_count}
 
 -- ---- tests
-
--- the part of an `and`
-pub and_true : (a b : Bool) → (a && b) ≡ true → (a ≡ true) × (b ≡ true)
-and_true true b h = (refl, h)
-and_true false b h = absurd (false≢true h)
 
 -- what lets a byte go on
 pub record Going (u v b : ℕ) : Type 0 where
@@ -24,9 +20,9 @@ pub record Going (u v b : ℕ) : Type 0 where
 pub going : (u v b : ℕ) → goes_on u v b ≡ true → Going u v b
 unfolding goes_on
 going u v b h =
-    let p = and_true (is_digit b) _ h in
-    let d = and_true (leb 48 b) (ltb b 58) (p.0) in
-    let q = and_true (eqb u 0 || ltb 0 v) _ (p.1) in
+    let p = both (is_digit b) _ h in
+    let d = both (leb 48 b) (ltb b 58) (p.0) in
+    let q = both (eqb u 0 || ltb 0 v) _ (p.1) in
     record {
       low = leb-true 48 b (d.0);
       high = ltb-true b 58 (d.1);

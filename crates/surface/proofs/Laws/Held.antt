@@ -1,23 +1,28 @@
 -- How many records of a kind there are and where they stand, and how long the lists of the mesh are. Assumes nothing.
-use Rattle.std.specs.Prelude.{◌≡◌, Bool, true, false, cond, ◌||◌, List, ltb, eqb, drop}
+use Rattle.std.specs.Prelude.{◌≡◌, ◌≢◌, Bool, true, false, cond, ◌||◌, List, ltb, eqb, drop}
 use Rattle.std.proofs.Math.Path.{refl}
-use Rattle.std.proofs.Common.{ap, ◌∙◌, add-one}
+use Rattle.std.proofs.Common.{ap, sym, ◌∙◌, add-one}
 use Prim.Native.Nat.{ℕ, zero, suc, ◌+◌, ◌*◌, ◌/◌, ◌≤◌, ◌<◌}
 use Rattle.std.proofs.Math.Decide.{dec_lt}
 use native.Mathlib.Omega.{arith}
 use borrow.Author.Tests.{ltb-false, ne_eqb, eqb-false}
 use Rattle.std.proofs.Math.ListN.{length}
 use Rattle.std.proofs.Math.Seq.{get_or-take, get_or-drop}
+use Rattle.std.proofs.Math.ListN.{get_or, get_or-eq_default}
+use Rattle.std.specs.Float.{binary32}
+use Rattle.std.specs.Float.Ieee.{of_bits}
 use Rattle.shape.specs.Gather.{any}
 use Rattle.shape.specs.Refusal.{fine}
 use Rattle.shape.specs.Lists.{word_of}
-use Rattle.shape.proofs.Laws.Gather.{gather_even, or_left, or_right}
+use Rattle.shape.proofs.Laws.Gather.{gather_even, any_none, or_left, or_right}
 use Rattle.surface.specs.declared.held.Sizes.{Sizes}
 use Rattle.surface.specs.File.{Held}
-use Rattle.surface.specs.File.{kind_of, spare_used, bad_record, kind_before, bad_at, parts, held_record, held_fault}
-use Rattle.surface.specs.Held.{how_many, is_kind, count_kind, sizes_of, three_in, place_in, normal_in, corners_in, vertices_in, normals_in, indices_in}
-use Rattle.surface.proofs.Laws.File.{faultless, whole_held}
-use Rattle.surface.proofs.Laws.Records.{positive}
+use Rattle.surface.specs.Lane.{lane_of_word, lane_of_file, lane_of_held}
+use Rattle.surface.specs.File.{File, decode, words_of, file_fault, file_record, held_of, held_at, spares, spare, kind_of, spare_used, bad_lane, bad_record, kind_before, bad_at, parts, held_record, held_fault}
+use Rattle.surface.specs.Held.{how_many, is_kind, count_kind, sizes_of, triangle_record, lane_in, single_in, three_in, place_in, normal_in, corners_in, vertices_in, normals_in, indices_in}
+use Rattle.surface.proofs.Laws.Lane.{zero_word, word_held, kind_held, held_other, lane_kept}
+use Rattle.surface.proofs.Laws.File.{faultless, whole_held, whole_file, words_length, decode_length, file_record_lem, held_record_at, file_record_eight, read_sound}
+use Rattle.surface.proofs.Laws.Records.{positive, no_spare_used}
 
 -- ---- how many
 
@@ -190,7 +195,7 @@ module _ (ws : List ℕ) where
   judged k e =
       let r = held_record ws k in
       let last = kind_before (held_record ws) k in
-      let spare = any (spare_used Held r) 8 in
+      let spare = any (spare_used Held r) 8 || bad_lane Held r in
       let e₁ = or_right (ltb (length r) 8) (eqb (kind_of r) 0 || (ltb 3 (kind_of r) || (ltb (kind_of r) last || spare))) e in
       let e₂ = or_right (eqb (kind_of r) 0) (ltb 3 (kind_of r) || (ltb (kind_of r) last || spare)) e₁ in
       let e₃ = or_right (ltb 3 (kind_of r)) (ltb (kind_of r) last || spare) e₂ in
@@ -218,6 +223,110 @@ module _ (ws : List ℕ) where
     pub kinds : Ranked (kind_at ws) (length ws / 8) (count_kind ws 1) (count_kind ws 2) (count_kind ws 3)
     unfolding count_kind is_kind
     kinds = ranked (kind_at ws) (length ws / 8) rising
+
+-- ---- the words of a sound file, as they are held
+
+record_word : (ws : List ℕ) (k j : ℕ) → j < 8 → get_or (held_record ws k) j 0 ≡ word_of 8 ws k j
+unfolding held_record word_of
+record_word ws k j h = get_or-take 8 (drop (8 * k) ws) j 0 h ∙ get_or-drop (8 * k) ws j 0
+
+file_record_word : (bs : List ℕ) (k j : ℕ) → j < 8 → get_or (file_record bs k) j 0 ≡ word_of 8 (decode bs) k j
+file_record_word bs k j h = ap (λ (r : List ℕ). get_or r j 0) (file_record_lem bs k) ∙ record_word (decode bs) k j h
+
+past_word : (ws : List ℕ) (k j : ℕ) → length ws ≤ 8 * k + j → word_of 8 ws k j ≡ 0
+unfolding word_of
+past_word ws k j h = get_or-eq_default ws 0 h
+
+no_lane : (s r : List ℕ) → get_or s 7 0 ≡ 0 → get_or r 4 0 ≡ 0 → lane_of_held s ≡ lane_of_file r
+unfolding lane_of_held lane_of_word
+no_lane s r p q = rw (p, q)
+
+module _ (bs : List ℕ) (e : file_fault bs ≡ fine) where
+  past_same : (k j : ℕ) → length bs / 32 ≤ k → (word_of 8 (words_of bs) k j ≡ 0) × (word_of 8 (decode bs) k j ≡ 0)
+  past_same k j h =
+      let whole = whole_file bs e in
+      (past_word (words_of bs) k j (omega (arith, whole, words_length bs)), past_word (decode bs) k j (omega (arith, whole, decode_length bs)))
+
+  held_is : (k : ℕ) → k < length bs / 32 → held_record (words_of bs) k ≡ held_of (kind_of (file_record bs k)) (file_record bs k)
+  unfolding held_at
+  held_is k h = held_record_at bs k (omega arith)
+
+  -- words other than those of a lane
+  module _ (k j : ℕ) (l : j < 8) where
+    pub word_kept : j ≢ 4 → j ≢ 7 → word_of 8 (words_of bs) k j ≡ word_of 8 (decode bs) k j
+    word_kept p q =
+        elim (dec_lt k (length bs / 32)) [
+          | yes h ↦
+              let r = file_record bs k in
+              sym (record_word (words_of bs) k j l) ∙ ap (λ (r : List ℕ). get_or r j 0) (held_is k h) ∙ word_held (kind_of r) r j p q ∙ file_record_word bs k j l
+          | no h ↦ (let z = past_same k j (omega arith) in z.0 ∙ sym z.1)
+        ]
+
+    -- and all words of a record of another kind
+    other_kept : (kind_at (words_of bs) k ≡ 2 → ⊥) → word_of 8 (words_of bs) k j ≡ word_of 8 (decode bs) k j
+    other_kept n =
+        elim (dec_lt k (length bs / 32)) [
+          | yes h ↦
+              let r = file_record bs k in
+              let m : kind_of r ≡ 2 → ⊥ = λ w. n (sym (record_word (words_of bs) k 0 (omega arith)) ∙ ap kind_of (held_is k h) ∙ kind_held (kind_of r) r ∙ w) in
+              sym (record_word (words_of bs) k j l) ∙ ap (λ (r : List ℕ). get_or r j 0) (held_is k h ∙ sym (held_other (kind_of r) r m)) ∙ file_record_word bs k j l
+          | no h ↦ (let z = past_same k j (omega arith) in z.0 ∙ sym z.1)
+        ]
+
+    pub vertex_kept : k < count_kind (words_of bs) 1 → word_of 8 (words_of bs) k j ≡ word_of 8 (decode bs) k j
+    vertex_kept h =
+        let one = (kinds (words_of bs) (read_sound bs e)).ones k h in
+        other_kept (λ two. omega arith)
+
+  -- the singles of a vertex, and of a question
+  pub vertex_single : (k j : ℕ) → j < 8 → k < count_kind (words_of bs) 1 → single_in (words_of bs) k j ≡ single_in (decode bs) k j
+  unfolding single_in
+  vertex_single k j l h = ap (λ (w : ℕ). of_bits binary32 w) (vertex_kept k j l h)
+
+  pub point_single : (k j : ℕ) → j < 3 → single_in (words_of bs) k j ≡ single_in (decode bs) k j
+  unfolding single_in
+  point_single k j l = ap (λ (w : ℕ). of_bits binary32 w) (word_kept k j (omega arith) (λ p. omega arith) (λ p. omega arith))
+
+  -- a spare word of a question
+  spare_word : (k j : ℕ) → k < length bs / 32 → kind_of (file_record bs k) ≡ 3 → j < 8 → spare File 3 j ≡ true → get_or (file_record bs k) j 0 ≡ 0
+  unfolding file_fault parts bad_at spare_used
+  spare_word k j h three l s =
+      let r = file_record bs k in
+      let sound = faultless File ((length bs + 31) / 32) (file_record bs) e in
+      let all : any (spare_used File r) 8 ≡ false = no_spare_used File r (kind_before (file_record bs) k) (sound.sound k (omega arith)) in
+      zero_word (get_or r j 0) (rw (three, s) at (any_none (spare_used File r) j 8 l all))
+
+  -- the lane of record k, from the triangles on
+  lane_at : (k : ℕ) → count_kind (words_of bs) 1 ≤ k → lane_of_held (held_record (words_of bs) k) ≡ lane_of_file (file_record bs k)
+  unfolding spare spares
+  lane_at k from =
+      let ranks = kinds (words_of bs) (read_sound bs e) in
+      elim (dec_lt k (length bs / 32)) [
+        | yes h ↦
+            let r = file_record bs k in
+            let is = held_is k h in
+            let kind : kind_of r ≡ kind_at (words_of bs) k = sym (kind_held (kind_of r) r) ∙ ap kind_of (sym is) ∙ record_word (words_of bs) k 0 (omega arith) in
+            elim (dec_lt k (count_kind (words_of bs) 1 + count_kind (words_of bs) 2)) [
+              | yes l ↦ ap lane_of_held is ∙ lane_kept r (file_record_eight bs k (omega arith)) (kind ∙ ranks.twos k from l)
+              | no l ↦
+                  let three : kind_of r ≡ 3 = kind ∙ ranks.threes k (omega arith) (omega (arith, words_length bs)) in
+                  let other : kind_of r ≡ 2 → ⊥ = λ two. omega arith in
+                  ap lane_of_held (is ∙ sym (held_other (kind_of r) r other)) ∙ no_lane r r (spare_word k 7 h three (omega arith) refl) (spare_word k 4 h three (omega arith) refl)
+            ]
+        | no h ↦
+            no_lane (held_record (words_of bs) k) (file_record bs k) (record_word (words_of bs) k 7 (omega arith) ∙ (past_same k 7 (omega arith)).0)
+            (file_record_word bs k 4 (omega arith) ∙ (past_same k 4 (omega arith)).1)
+      ]
+
+  -- "word 4 of a triangle record becomes the id plus one, 0 remaining for none"
+  pub lane_read : (t : ℕ) → lane_in (words_of bs) t ≡ lane_of_file (file_record bs (triangle_record (words_of bs) t))
+  unfolding lane_in triangle_record
+  lane_read t = lane_at (count_kind (words_of bs) 1 + t) (omega arith)
+
+  -- as the word tells it
+  pub lane_told : (t : ℕ) → lane_in (words_of bs) t ≡ lane_of_word (word_of 8 (decode bs) (count_kind (words_of bs) 1 + t) 4)
+  unfolding triangle_record
+  lane_told t = let k = count_kind (words_of bs) 1 + t in rw (← (file_record_word bs k 4 (omega arith))) (lane_read t)
 
 -- at most 2,048 records, and so at most 6,144 elements in each list
 pub record Few (s : Sizes) : Type 0 where

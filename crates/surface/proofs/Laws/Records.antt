@@ -1,57 +1,31 @@
 -- Laws behind the judging of records: how many there are, and the kind that is kept from one to the next. Assumes nothing.
-use Rattle.std.specs.Prelude.{◌≡◌, Bool, not, ◌||◌, List, Option, Some, None, ltb, length, get_or, take, drop}
+use Rattle.std.specs.Prelude.{◌≡◌, Bool, not, ◌&&◌, ◌||◌, List, Option, Some, None, ltb, length, get_or}
 use Rattle.std.specs.Bool.{then_some}
 use Rattle.std.proofs.Math.Path.{refl, sym}
-use Rattle.std.proofs.Common.{ap, ◌∙◌, mul-le-mul_left, length-take, length-drop}
+use Rattle.std.proofs.Common.{ap, ◌∙◌}
 use Rattle.std.proofs.Math.Bool.{true, false, cond}
-use Prim.Native.Nat.{ℕ, zero, suc, ◌+◌, ◌-◌, ◌*◌, ◌/◌, ◌%◌, ◌≤◌, ◌<◌, min}
-use Rattle.std.proofs.Math.Nat.{div-add-mod', div-eq_of_lt-le, mod-lt, add-mul}
+use Prim.Native.Nat.{ℕ, zero, suc, ◌+◌, ◌*◌, ◌/◌, ◌≤◌, ◌<◌}
 use Rattle.std.proofs.Math.Numerals.{add-one}
 use Rattle.std.proofs.Math.Decide.{dec_lt}
 use native.Mathlib.Omega.{arith}
-use borrow.Author.Tests.{lt-ltb, le-ltb, eq-eqb, ne_eqb, eqb-true}
+use borrow.Author.Tests.{lt-ltb, eq-eqb, ne_eqb, eqb-true}
 use Rattle.std.proofs.Math.Dec.{eqb}
 use Rattle.shape.specs.Gather.{any, least}
-use Rattle.shape.proofs.Laws.Gather.{any_next, any_none, least_found, least_past}
+use Rattle.shape.proofs.Laws.Gather.{or_left, or_right, any_next, any_none, least_found, least_past}
 use Rattle.surface.specs.File.{Form, File, Held}
-use Rattle.surface.specs.File.{kind_of, by_kind, spares, spare, spare_used, bad_record, kind_before, bad_at, parts, held_record, file_record, held_of, file_of, held_at, file_at}
+use Rattle.surface.specs.File.{kind_of, by_kind, in_file_alone, spares, spare, spare_used, bad_lane, bad_record, kind_before, bad_at, parts, held_record, file_record, held_of, file_of, held_at, file_at}
 use Rattle.surface.specs.declared.file.Kind.{Kind}
 use Rattle.surface.specs.declared.file.Kind.TheVariants.{Vertex, Triangle, Question}
 use Rattle.surface.specs.Kind.{number, kind_from, number_before}
 use Rattle.surface.specs.FileSteps.{sound_kind, count_in, whole_in, record_in, first_of}
-use Rattle.surface.proofs.Laws.File.{decode_length, held_same, file_same}
+use Rattle.surface.proofs.Laws.Lane.{length_held, length_filed}
+use Rattle.surface.proofs.Laws.File.{held_record_length, file_record_length, held_record_eight, file_record_eight}
 
 -- ---- how many there are
 
 pub positive : (r : ℕ) → (r ≡ 0 → ⊥) → 0 < r
 positive zero e = absurd (e refl)
 positive (suc r) e = omega arith
-
-module _ (u n : ℕ) (some : 0 < u) where
-  pub parts_even : n % u ≡ 0 → n / u ≡ parts u n
-  unfolding parts
-  parts_even e =
-      let d : n / u * u + n % u ≡ n = div-add-mod' n u in
-      let low : n / u * u ≤ n + (u - 1) = omega arith in
-      let high : n + (u - 1) < (n / u + 1) * u = rw (add-mul (n / u) 1 u) (omega arith) in
-      sym (div-eq_of_lt-le u low high)
-
-  pub parts_more : (n % u ≡ 0 → ⊥) → n / u + 1 ≡ parts u n
-  unfolding parts
-  parts_more e =
-      let d : n / u * u + n % u ≡ n = div-add-mod' n u in
-      let r : n % u < u = mod-lt n some in
-      let p : 0 < n % u = positive (n % u) e in
-      let low : (n / u + 1) * u ≤ n + (u - 1) = rw (add-mul (n / u) 1 u) (omega arith) in
-      let high : n + (u - 1) < (n / u + 1 + 1) * u = rw (add-mul (n / u + 1) 1 u, add-mul (n / u) 1 u) (omega arith) in
-      sym (div-eq_of_lt-le u low high)
-
-  pub more_fits : (n % u ≡ 0 → ⊥) → n / u + 1 ≤ n
-  more_fits e =
-      let d : n / u * u + n % u ≡ n = div-add-mod' n u in
-      let p : 0 < n % u = positive (n % u) e in
-      let m : n / u * 1 ≤ n / u * u = mul-le-mul_left (n / u) some in
-      omega arith
 
 -- ---- spare words, by the first of them
 
@@ -66,18 +40,27 @@ by_table : (row : List Bool) (rule : ℕ → Bool) → any (λ j. cond (get_or r
     → rule j ≡ get_or row j false
 by_table row rule e j h = sym (same_bool (get_or row j false) (rule j) (any_none (λ j. cond (get_or row j false) (not (rule j)) (rule j)) j 8 h e))
 
-module _ (form : Form) (kind j : ℕ) (h : j < 8) where
-  pub spare_vertex : kind ≡ 1 → eqb j 7 ≡ spare form kind j
+module _ (kind j : ℕ) (h : j < 8) where
+  pub spare_vertex : kind ≡ 1 → eqb j 7 ≡ spare File kind j
   unfolding spare spares by_kind any
-  spare_vertex e = rw e (by_table (spares form 1) (λ j. eqb j 7) refl j h)
+  spare_vertex e = rw e (by_table (spares File 1) (λ j. eqb j 7) refl j h)
 
-  pub spare_triangle : kind ≡ 2 → ltb 4 j ≡ spare form kind j
-  unfolding spare spares by_kind any
-  spare_triangle e = rw e (by_table (spares form 2) (ltb 4) refl j h)
+  pub spare_triangle : kind ≡ 2 → ltb 4 j ≡ spare File kind j
+  unfolding spare spares in_file_alone by_kind any
+  spare_triangle e = rw e (by_table (spares File 2) (ltb 4) refl j h)
 
-  pub spare_question : (kind ≡ 1 → ⊥) → (kind ≡ 2 → ⊥) → ltb 2 j ≡ spare form kind j
+  pub spare_question : (kind ≡ 1 → ⊥) → (kind ≡ 2 → ⊥) → ltb 2 j ≡ spare File kind j
   unfolding spare spares by_kind any
-  spare_question n₁ n₂ = rw (ne_eqb kind 1 n₁, ne_eqb kind 2 n₂) (by_table (spares form 3) (ltb 2) refl j h)
+  spare_question n₁ n₂ = rw (ne_eqb kind 1 n₁, ne_eqb kind 2 n₂) (by_table (spares File 3) (ltb 2) refl j h)
+
+  -- and held
+  pub spare_held : kind ≡ 2 → (ltb 4 j && not (eqb j 7)) ≡ spare Held kind j
+  unfolding spare spares in_file_alone by_kind any
+  spare_held e = rw e (by_table (spares Held 2) (λ j. ltb 4 j && not (eqb j 7)) refl j h)
+
+  pub spare_same : (kind ≡ 2 → ⊥) → spare File kind j ≡ spare Held kind j
+  unfolding spare spares by_kind
+  spare_same n = rw (ne_eqb kind 2 n)
 
 -- ---- the kind of a sound record, and 0 of a bad one
 
@@ -103,15 +86,11 @@ module _ (form : Form) (r : List ℕ) (last : ℕ) where
   falls = ltb (kind_of r) last
 
   abbrev filled : Bool
-  filled = any (spare_used form r) 8
+  filled = any (spare_used form r) 8 || bad_lane form r
 
   zero_if_bad : bad_record form r last ≡ true → 0 ≡ sound_kind form r last
   unfolding sound_kind
   zero_if_bad e = rw e
-
-  pub kind_part : length r < 8 → 0 ≡ sound_kind form r last
-  unfolding bad_record
-  kind_part h = zero_if_bad (or_some part (none || (high || (falls || filled))) (lt-ltb (length r) 8 h))
 
   bad_kind : (none || (high || (falls || filled))) ≡ true → bad_record form r last ≡ true
   unfolding bad_record
@@ -123,19 +102,12 @@ module _ (form : Form) (r : List ℕ) (last : ℕ) where
   pub kind_unknown : 3 < kind_of r → 0 ≡ sound_kind form r last
   kind_unknown h = bad_known (or_some high (falls || filled) (lt-ltb 3 (kind_of r) h))
 
-  pub kind_falls : kind_of r < last → 0 ≡ sound_kind form r last
-  kind_falls h = bad_known (or_more high (falls || filled) (or_some falls filled (lt-ltb (kind_of r) last h)))
-
-  pub kind_spare : any (spare_used form r) 8 ≡ true → 0 ≡ sound_kind form r last
-  kind_spare e = bad_known (or_more high (falls || filled) (or_more falls filled e))
-
-  pub kind_kept : 8 ≤ length r → kind_of r ≤ 3 → last ≤ kind_of r → any (spare_used form r) 8 ≡ false → kind_of r ≡ sound_kind form r last
-  unfolding sound_kind bad_record
-  kind_kept l h f e = rw (le-ltb (length r) 8 l, le-ltb 3 (kind_of r) h, le-ltb (kind_of r) last f, e) (go (eqb (kind_of r) 0) (eqb-true (kind_of r) 0))
-    where
-      go : (b : Bool) → (b ≡ true → kind_of r ≡ 0) → kind_of r ≡ cond (b || false) 0 (kind_of r)
-      go true z = z refl
-      go false z = refl
+  -- of a sound record no spare word is used
+  pub no_spare_used : bad_record form r last ≡ false → any (spare_used form r) 8 ≡ false
+  unfolding bad_record
+  no_spare_used e =
+      let known = or_right none (high || (falls || filled)) (or_right part (none || (high || (falls || filled))) e) in
+      or_left (any (spare_used form r) 8) (bad_lane form r) (or_right falls filled (or_right high (falls || filled) known))
 
   pub kind_bad : sound_kind form r last ≡ 0 → bad_record form r last ≡ true
   unfolding sound_kind bad_record
@@ -226,39 +198,15 @@ module _ (form : Form) (at : ℕ → List ℕ) (last : Option Kind) (k : ℕ) (p
   pub passed_unsound : (n : ℕ) → k < n → kind_from (sound_kind form (at k) (number_before last)) ≡ None → k ≡ least (bad_at form at) n
   passed_unsound n h e = passed_bad form at (number_before last) k (sound_kind form (at k) (number_before last)) p refl n h (kind_none form (at k) (number_before last) e)
 
--- ---- a record of held words, and of a file
-
-held_length : (ws : List ℕ) (k : ℕ) → length (held_record ws k) ≡ min 8 (length ws - 8 * k)
-unfolding held_record
-held_length ws k = length-take 8 (drop (8 * k) ws) ∙ ap (min 8) (length-drop (8 * k) ws)
-
-file_length : (bs : List ℕ) (k : ℕ) → length (file_record bs k) ≡ min 32 (length bs - 32 * k) / 4
-unfolding file_record
-file_length bs k = decode_length (take 32 (drop (32 * k) bs)) ∙ ap (λ (n : ℕ). n / 4) (length-take 32 (drop (32 * k) bs) ∙ ap (min 32) (length-drop (32 * k) bs))
-
--- a whole record has eight words, and so has what the codec makes of it
-pub whole_eight : (form : Form) (bs ws : List ℕ) (k : ℕ) {r : List ℕ} → k < whole_in form bs ws → r ≡ record_in form bs ws k → length r ≡ 8
-unfolding whole_in record_in
-whole_eight File bs ws k h e = ap length e ∙ rw (file_length bs k) (omega arith)
-whole_eight Held bs ws k h e = ap length e ∙ rw (held_length ws k) (omega arith)
+-- ---- a record of held words, and of a file: what the codec makes of a whole one has eight words
 
 pub held_eight : (bs : List ℕ) (k : ℕ) {r h : List ℕ} → 32 * k + 32 ≤ length bs → r ≡ file_record bs k → h ≡ held_of (kind_of r) r → (h ≡ held_at bs k) × (length h ≡ 8)
 unfolding held_at
-held_eight bs k {r} {h} l e f =
-    let n : length r ≡ 8 = ap length e ∙ file_length bs k ∙ eight (length bs) k l in
-    (rw e at f, ap length (f ∙ held_same (kind_of r) r) ∙ n)
-  where
-    eight : (n k : ℕ) → 32 * k + 32 ≤ n → min 32 (n - 32 * k) / 4 ≡ 8
-    eight n k l = omega arith
+held_eight bs k {r} {h} l e f = (rw e at f, ap length f ∙ length_held (kind_of r) r ∙ ap length e ∙ file_record_eight bs k l)
 
 pub file_eight : (ws : List ℕ) (k : ℕ) {r f : List ℕ} → 8 * k + 8 ≤ length ws → r ≡ held_record ws k → f ≡ file_of (kind_of r) r → (f ≡ file_at ws k) × (length f ≡ 8)
 unfolding file_at
-file_eight ws k {r} {f} l e g =
-    let n : length r ≡ 8 = ap length e ∙ held_length ws k ∙ eight (length ws) k l in
-    (rw e at g, ap length (g ∙ file_same (kind_of r) r) ∙ n)
-  where
-    eight : (n k : ℕ) → 8 * k + 8 ≤ n → min 8 (n - 8 * k) ≡ 8
-    eight n k l = omega arith
+file_eight ws k {r} {f} l e g = (rw e at g, ap length g ∙ length_filed (kind_of r) r ∙ ap length e ∙ held_record_eight ws k l)
 
 -- a number that the test holds of is the least of one more, where none before it is
 least_next : (f : ℕ → Bool) (n : ℕ) → f n ≡ true → least f n ≡ least f (suc n)
@@ -269,8 +217,8 @@ least_next f (suc n) e = ap (λ (k : ℕ). cond (f 0) 0 (suc k)) (least_next (λ
 -- the record after the whole ones is a part one, and so a bad one
 part_bad : (form : Form) (bs ws : List ℕ) → length (record_in form bs ws (whole_in form bs ws)) < 8
 unfolding record_in whole_in
-part_bad File bs ws = rw (file_length bs (length bs / 32)) (omega arith)
-part_bad Held bs ws = rw (held_length ws (length ws / 8)) (omega arith)
+part_bad File bs ws = rw (file_record_length bs (length bs / 32)) (omega arith)
+part_bad Held bs ws = rw (held_record_length ws (length ws / 8)) (omega arith)
 
 whole_or_part : (form : Form) (bs ws : List ℕ) → (whole_in form bs ws ≤ count_in form bs ws) × (count_in form bs ws ≤ whole_in form bs ws + 1)
 unfolding whole_in count_in parts

@@ -8,7 +8,8 @@ use Rattle.std.proofs.Math.Seq.{take-append-le, take-append-add, drop-append_sea
 use Rattle.surface.specs.Text.{decimal}
 use Rattle.surface.specs.Sentence.{Part, byte, count, fill, Count, is_digit, read_from, read_count, Walk, stop, past_byte, past_count, walk, Small}
 use Rattle.surface.proofs.Laws.Text.{digits_few, digits_some}
-use Rattle.surface.proofs.Laws.Counts.{and_true, stops, same_reach, decimal_through, Off, read_off}
+use Rattle.lookup.proofs.Laws.Parts.{both}
+use Rattle.surface.proofs.Laws.Counts.{stops, same_reach, decimal_through, Off, read_off}
 
 -- ---- templates
 
@@ -67,7 +68,7 @@ walk_filled [] (n ∷ ns) k s l = absurd (omega arith)
 walk_filled (byte b ∷ t) ns k s l = rw (eq-eqb b b refl, walk_filled t ns k s l) refl
 walk_filled (count ∷ t) [] k s l = absurd (omega arith)
 walk_filled (count ∷ t) (n ∷ ns) k s l =
-    let o = and_true (opens t) (clear t) k in
+    let o = both (opens t) (clear t) k in
     let m : length ns ≡ places t = omega arith in
     walk_count t n (fill t ns) (s.0) (ends_filled t ns (length (decimal n)) n (o.0))
     ∙ rw (walk_filled t ns (o.1) (s.1) m, length-append (decimal n) (fill t ns)) refl
@@ -135,10 +136,10 @@ split xs F bs q h l e =
     let n = length xs in
     let d : n + (q - n) ≡ q = omega arith in
     let m : n ≤ length bs = omega arith in
-    let both : xs ++ take (q - n) F ≡ take n bs ++ take (q - n) (drop n bs) = sym (take-append-add xs F (q - n)) ∙ rw (d, e) (rw d at (take-add n (q - n) bs)) in
+    let all : xs ++ take (q - n) F ≡ take n bs ++ take (q - n) (drop n bs) = sym (take-append-add xs F (q - n)) ∙ rw (d, e) (rw d at (take-add n (q - n) bs)) in
     let k : length (take n bs) ≡ n = length-take-le n bs m in
-    let front : xs ≡ take n bs = sym (take_at xs (take (q - n) F) n refl) ∙ ap (take n) both ∙ take_at (take n bs) (take (q - n) (drop n bs)) n k in
-    let back : take (q - n) F ≡ take (q - n) (drop n bs) = sym (drop_at xs (take (q - n) F) n refl) ∙ ap (drop n) both ∙ drop_at (take n bs) (take (q - n) (drop n bs)) n k in
+    let front : xs ≡ take n bs = sym (take_at xs (take (q - n) F) n refl) ∙ ap (take n) all ∙ take_at (take n bs) (take (q - n) (drop n bs)) n k in
+    let back : take (q - n) F ≡ take (q - n) (drop n bs) = sym (drop_at xs (take (q - n) F) n refl) ∙ ap (drop n) all ∙ drop_at (take n bs) (take (q - n) (drop n bs)) n k in
     record {
       is = sym (take-append-drop n bs) ∙ ap (λ (ys : List ℕ). ys ++ drop n bs) (sym front);
       rest = back;
@@ -161,7 +162,7 @@ reach (byte c ∷ t) ns (b ∷ bs) (suc q) k s l h e =
     rw (eq-eqb b c (sym same)) (omega (arith, reach t ns bs q k s l m rest))
 reach (count ∷ t) [] bs q k s l h e = absurd (omega arith)
 reach (count ∷ t) (n ∷ ns) bs q k s l h e =
-    let o = and_true (opens t) (clear t) k in
+    let o = both (opens t) (clear t) k in
     let m : length ns ≡ places t = omega arith in
     elim (dec_le q (length (decimal n))) [
       | yes p ↦ within p

@@ -1,9 +1,10 @@
 -- `surface::file::copy_bytes` meets its contract: the first k records are put. Assumes nothing.
-use Rattle.std.proofs.Common.{◌+◌, ◌*◌, ◌/◌, length, sym, arith}
-use Rattle.surface.specs.File.{bytes_of, parts}
+use Rattle.std.proofs.Common.{◌+◌, ◌*◌, ◌/◌, length, arith}
+use Rattle.shape.proofs.Laws.Gather.{any_none}
+use Rattle.surface.specs.File.{bytes_of, past_at, parts}
 use Rattle.surface.specs.FileSteps.{whole_in, record_in}
 use Rattle.surface.proofs.Copies.{filled_none, filled_fits, filled_turn, filled_all}
-use Rattle.surface.proofs.Laws.File.{encode_length, file_same}
+use Rattle.surface.proofs.Laws.File.{encode_length}
 use Rattle.surface.proofs.Laws.Records.{file_eight}
 use Rattle.surface.proofs.file.copy_bytes.Goals as goal
 
@@ -14,6 +15,12 @@ pub overflow_mul-k : goal.overflow_mul-k
 unfolding whole_in
 overflow_mul-k c = omega arith
 
+pub filed-requires : goal.filed-requires
+unfolding past_at whole_in record_in
+filed-requires c =
+    let ws = c.args.held.now in
+    rw (← c.«record».ensures) at (any_none (past_at ws) c.loop-k.k (length ws / 8) (omega arith) c.requires.ids)
+
 pub put_file-requires : goal.put_file-requires
 unfolding whole_in
 put_file-requires c = filled_fits _ _ c.loop-k.invariant (length c.args.held.now / 8) (omega arith) (omega arith)
@@ -22,8 +29,8 @@ pub loop-k-preserved : goal.loop-k-preserved
 unfolding record_in whole_in
 loop-k-preserved c =
     let l = c.loop-k in
-    let z = file_eight c.args.held.now l.k (omega arith) c.«record».ensures (sym (file_same _ c.«record».result.words)) in
-    filled_turn _ _ l.invariant (rw (← z.0) (omega (arith, encode_length c.«record».result.words, z.1))) (rw z.0 at c.put_file.ensures) (omega arith)
+    let z = file_eight c.args.held.now l.k (omega arith) c.«record».ensures c.filed.ensures in
+    filled_turn _ _ l.invariant (rw (← z.0) (omega (arith, encode_length c.filed.result.words, z.1))) (rw z.0 at c.put_file.ensures) (omega arith)
 
 pub returns : goal.returns
 unfolding bytes_of parts whole_in

@@ -1,5 +1,5 @@
 -- `surface::report::report` meets its contract: what was said of the file picks the text. Assumes nothing.
-use Rattle.surface.proofs.Reporting.{file_place, file_refused, file_few, file_text, says_same, reported}
+use Rattle.surface.proofs.Reporting.{file_place, file_refused, file_sound, file_text, says_same, reported}
 use Rattle.surface.proofs.report.report.Goals as goal
 
 pub tell_refusal-requires : goal.tell_refusal-requires
@@ -14,7 +14,7 @@ returns-in-Err c =
 
 pub new-requires : goal.new-requires
 new-requires c =
-    file_few c.args.bytes.now c.file_fault.ensures c.in-Ok.is
+    file_sound c.args.bytes.now c.file_fault.ensures c.in-Ok.is
 
 pub returns-in-Ok : goal.returns-in-Ok
 returns-in-Ok c =
