@@ -145,6 +145,16 @@ def cases(number, inputs, answers):
 def refused(number, place, memory=()):
     return [number, place] + list(memory)
 
+def patch_limits():
+    """The coefficients of 0 to 15, and those of an infinity with zeros: a product with 0 is worked out, and NaN there."""
+    inf, nan, neg = float('inf'), float('nan'), -float('inf')
+    def case(given, *made):
+        return sum(map(wide, given), []), sum(map(wide, made), [])
+    return [
+        case([float(n) for n in range(16)], 0, 2, -4, 3, 8, 10, -28, 19, -16, -22, 60, -41, 12, 16, -44, 30),
+        case([inf] + [0.0] * 15, inf, nan, neg, inf, nan, nan, nan, nan, neg, nan, inf, neg, inf, nan, neg, inf),
+    ]
+
 FLAT = wide(0.0)
 
 def elevation_limits():
@@ -404,5 +414,5 @@ def validate_answer(vertices, normals, indices, spans):
     triples, left = divmod(indices[0], 3)
     return [0, 4, triples, 0, 0] if left else [0, 0, 0, 0, 0]
 
-LIMITS = {330: elevation_limits, 331: elevation_limits, 333: ring_limits, 334: ear_limits, 335: junction_limits,
-          336: surface_limits, 337: validate_limits}
+LIMITS = {328: patch_limits, 330: elevation_limits, 331: elevation_limits, 333: ring_limits, 334: ear_limits,
+          335: junction_limits, 336: surface_limits, 337: validate_limits}

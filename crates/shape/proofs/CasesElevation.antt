@@ -1,15 +1,15 @@
--- Document 01, the cases marked [P] of "Height in a junction", as one list of tests that are all true by computation, with some of the refusals. Assumes nothing.
-use Rattle.std.specs.Prelude.{◌≡◌, ℕ, zero, suc, ◌-◌, ◌≤◌, Bool, true, false, cond, ◌&&◌, ◌||◌, ◌⊎◌, List, [], ◌∷◌, length, ℤ, pos, negsuc, ◌==◌, Float, Some, None}
+-- Document 01, the cases marked [P] of "Height in a junction", as one list of tests that are all true by computation, with some of the refusals, and the coefficients of sixteen numbers. Assumes nothing.
+use Rattle.std.specs.Prelude.{◌≡◌, ℕ, zero, suc, ◌-◌, ◌≤◌, Bool, true, false, cond, ◌&&◌, ◌||◌, ◌⊎◌, List, [], ◌∷◌, map, length, replicate, ℤ, pos, negsuc, ◌==◌, Float, Some, None}
 use Rattle.std.proofs.Math.Path.{refl}
 use Rattle.std.proofs.Math.Logic.{inl, inr}
 use native.Mathlib.Omega.{arith}
 use Rattle.std.proofs.Common.{le-ltb}
 use Rattle.std.proofs.Math.IntN.{suc_ℤ, pred_ℤ}
-use Rattle.std.specs.Float.{binary64}
+use Rattle.std.specs.Float.{nan, inf, binary64}
 use Rattle.std.specs.Float.Ieee.{add, sub, mul, div, neg, lt, le, eq, is_nan, of_bits, of_int, to_bits, to_signed}
 use Rattle.rounding.specs.Whole.{whole_of}
 use Rattle.rounding.specs.Extremes.{abs_of}
-use Rattle.shape.proofs.CaseTests.{all}
+use Rattle.shape.proofs.CaseTests.{same, same_doubles, all}
 use Rattle.shape.specs.Double.{double, 0d, 1d, ◌⊟◌, ◌⧄◌}
 use Rattle.shape.specs.Gather.{gather, any}
 use Rattle.shape.specs.Lists.{longer, uneven, word_of, last_end, run_bad, run_long}
@@ -64,6 +64,35 @@ height_cases =
 pub height_cases_lem : all height_cases ≡ true
 unfolding same_spot gives grid rows asked height_cases all nth row_of column_of value_of line_of straight_of slopes_of edge_of first_of second_of frame_of entry_of mul_of transpose_of bicubic coefficients_of power_of sum_to surface_of with_height square_of in_square or_spot tried_at tried on_grid snap_of longest widest_of within coords_of height_of grid_long grid_ragged grid_fault height_answer gather any longer uneven word_of last_end run_bad run_long refuse judge whole_of abs_of add sub mul div neg lt le eq is_nan of_bits of_int to_bits to_signed
 height_cases_lem = refl
+
+-- ---- the coefficients of sixteen numbers, row by row: of 0 to 15, and of an infinity with zeros, where each product with 0 is worked out
+
+-- whole numbers as doubles
+abbrev whole_numbers : List ℤ → List Float
+whole_numbers = map (of_int binary64)
+
+-- the coefficients of these sixteen numbers are those
+makes : List Float → List Float → Bool
+makes f alpha = same_doubles (coefficients_of (record { m = f })).m alpha
+
+pub patch_cases : List Bool
+patch_cases =
+    makes (gather (λ (n : ℕ). of_int binary64 (pos n) ∷ []) 16)
+    (whole_numbers
+    (pos 0 ∷ pos 2 ∷ negsuc 3 ∷ pos 3
+    ∷ pos 8 ∷ pos 10 ∷ negsuc 27 ∷ pos 19
+    ∷ negsuc 15 ∷ negsuc 21 ∷ pos 60 ∷ negsuc 40
+    ∷ pos 12 ∷ pos 16 ∷ negsuc 43 ∷ pos 30 ∷ []))
+    ∷ makes (inf false ∷ replicate 15 0d)
+    (inf false ∷ nan ∷ inf true ∷ inf false
+    ∷ nan ∷ nan ∷ nan ∷ nan
+    ∷ inf true ∷ nan ∷ inf false ∷ inf true
+    ∷ inf false ∷ nan ∷ inf true ∷ inf false ∷ [])
+    ∷ []
+
+pub patch_cases_lem : all patch_cases ≡ true
+unfolding makes patch_cases same all gather entry_of mul_of transpose_of bicubic coefficients_of add mul neg of_bits of_int to_bits
+patch_cases_lem = refl
 
 -- ---- what is turned back: a part record, a run that ends before it starts, starts before the last one's end or ends past its list, and one past its limit,
 -- which comes before its being ragged

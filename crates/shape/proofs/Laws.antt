@@ -4,6 +4,7 @@ pub mod Memory
 pub mod Refusal
 pub mod Lists
 pub mod MeshMemory
+pub mod Elevation
 pub mod SurfaceMesh
 pub mod Outline
 pub mod Ears

@@ -1,7 +1,9 @@
--- What the steps of the height in a junction give each other: a pass over the rows, a coordinate's place, and the limits that sound lists keep.
+-- What the steps of the height in a junction give each other: a pass over the rows, a row of the standard's matrix, a coordinate's
+-- place, and the limits that sound lists keep.
 -- Definitions only. Assumes nothing.
-use Rattle.std.specs.Prelude.{◌≡◌, ℕ, ◌-◌, ◌^◌, ◌<◌, ◌≤◌, Bool, cond, ◌||◌, T, List, nat_lt, Float, Option, Some, None}
+use Rattle.std.specs.Prelude.{◌≡◌, ℕ, ◌+◌, ◌-◌, ◌*◌, ◌^◌, ◌<◌, ◌≤◌, Bool, cond, ◌||◌, T, List, [], ◌∷◌, get_or, nat_lt, Float, Option, Some, None}
 use Rattle.std.proofs.Math.IntN.{sub_ℕ}
+use Rattle.std.specs.Float.{nan}
 use Rattle.std.specs.Float.Ieee.{le, neg, to_signed}
 use Rattle.shape.specs.declared.elevation.GridFault.{GridFault}
 use Rattle.shape.specs.declared.elevation.GridFault.TheVariants.{Long, Ragged}
@@ -11,7 +13,7 @@ use Rattle.shape.specs.Lists.{max_rows, max_side, run_bad, run_long}
 use Rattle.shape.specs.declared.refusal.Refusal.{Refusal}
 use Rattle.shape.specs.declared.refusal.Refusal.TheVariants.{Oversize}
 use Rattle.shape.specs.declared.refusal.Refusal.TheVariants as told
-use Rattle.shape.specs.Elevation.{row_count, widest_of, floored}
+use Rattle.shape.specs.Elevation.{row_count, widest_of, bicubic, floored}
 use Rattle.shape.specs.declared.elevation.Run.{Run}
 use Rattle.shape.specs.declared.elevation.Place.{Place}
 
@@ -35,6 +37,15 @@ fault_of rows = cond (any (run_long 6 2 rows max_side) (row_count rows) || any (
 unfoldable pub refusal_of : GridFault → ℕ → Refusal
 refusal_of Long rows = Oversize max_rows
 refusal_of Ragged rows = told.Ragged rows
+
+-- row k of the standard's matrix
+unfoldable pub table_row : ℕ → List Float
+unfolding bicubic
+table_row k =
+    get_or bicubic.m (4 * k) nan
+    ∷ get_or bicubic.m (4 * k + 1) nan
+    ∷ get_or bicubic.m (4 * k + 2) nan
+    ∷ get_or bicubic.m (4 * k + 3) nan ∷ []
 
 -- what sound lists keep
 pub record Limits (rows : List ℕ) (most : ℕ) : Type 0 where

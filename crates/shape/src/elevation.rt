@@ -20,6 +20,8 @@ ghost use Rattle.shape.specs.Elevation.{
   frame_of,
   entry_of,
   mul_of,
+  transpose_of,
+  bicubic,
   coefficients_of,
   surface_of,
   in_square,
@@ -32,7 +34,7 @@ ghost use Rattle.shape.specs.Elevation.{
   height_answer,
   height_at_answer,
 };
-ghost use Rattle.shape.specs.ElevationSteps.{odd_run, pass_of, fault_of, refusal_of, Placed, Near, Limits};
+ghost use Rattle.shape.specs.ElevationSteps.{odd_run, pass_of, fault_of, refusal_of, table_row, Placed, Near, Limits};
 
 use crate::lists::{MAX_ROWS, MAX_SIDE, Records};
 use crate::refusal::Refusal;
@@ -265,48 +267,105 @@ fn second_of(x: Option<Tilt>) -> Option<f64>
 
 // ---- the surface over a square
 
-// The matrix that turns a square's corners, slopes and twists into its coefficients, and the same
-// transposed.
-const A: [f64; 16] = [
-    1.0, 0.0, 0.0, 0.0, 0.0, 0.0, 1.0, 0.0, -3.0, 3.0, -2.0, -1.0, 2.0, -2.0, 1.0, 1.0,
-];
-
-const A_TRANSPOSED: [f64; 16] = [
-    1.0, 0.0, -3.0, 2.0, 0.0, 0.0, 3.0, -2.0, 0.0, 1.0, -2.0, 1.0, 0.0, 0.0, -1.0, 1.0,
-];
-
-// Entry (r, c) of the product of a and b.
-#[tactic(auto, unfolding(crate::specs::Elevation::entry_of))]
-fn entry(a: Patch, b: Patch, r: usize, c: usize) -> f64
-    requires { (r < 4) × (c < 4) }
-    ensures { result ≡ entry_of a.m b.m r c }
+// Row k of the table, the matrix that turns a square's corners, slopes and twists into its coefficients. Its
+// sixteen numbers stand here alone: a constant that is indexed would be copied to the stack at each call.
+#[tactic(auto, unfolding(crate::specs::ElevationSteps::table_row))]
+fn table(k: usize) -> [f64; 4]
+    requires { k < 4 }
+    ensures { result ≡ table_row k }
 {
-    let x = a.m;
-    let y = b.m;
-    let k = 4 * r;
-    x[k] * y[c] + x[k + 1] * y[4 + c] + x[k + 2] * y[8 + c] + x[k + 3] * y[12 + c]
-}
-
-// The product of two matrices.
-pub fn mul(a: Patch, b: Patch) -> Patch
-    ensures { result ≡ mul_of a b }
-{
-    let mut m = [0.0; 16];
-    for r in 0..4 {
-        for c in 0..4 {
-            m[4 * r + c] = entry(a, b, r, c);
-        }
+    match k {
+        0 => [1.0, 0.0, 0.0, 0.0],
+        1 => [0.0, 0.0, 1.0, 0.0],
+        2 => [-3.0, 3.0, -2.0, -1.0],
+        _ => [2.0, -2.0, 1.0, 1.0],
     }
-    Patch { m }
 }
 
-// The coefficients of the surface with the corners, slopes and twists f.
+// Entry (r, c) of the table times f. Products with 0 are worked out, here and below: of an infinity or a NaN
+// they are NaN.
+#[tactic(auto, unfolding(crate::specs::Elevation::entry_of, crate::specs::ElevationSteps::table_row))]
+fn table_times_at(f: Patch, r: usize, c: usize) -> f64
+    requires { (r < 4) × (c < 4) }
+    ensures { result ≡ entry_of bicubic.m f.m r c }
+{
+    let a = table(r);
+    a[0] * f.m[c] + a[1] * f.m[4 + c] + a[2] * f.m[8 + c] + a[3] * f.m[12 + c]
+}
+
+// Entry (r, c) of f times the turned table, whose column c is row c of the table.
+#[tactic(auto, using(crate::proofs::Laws::Elevation::by_row), unfolding(crate::specs::ElevationSteps::table_row))]
+fn times_turned_at(f: Patch, r: usize, c: usize) -> f64
+    requires { (r < 4) × (c < 4) }
+    ensures { result ≡ entry_of f.m (transpose_of bicubic).m r c }
+{
+    let a = table(c);
+    let k = 4 * r;
+    f.m[k] * a[0] + f.m[k + 1] * a[1] + f.m[k + 2] * a[2] + f.m[k + 3] * a[3]
+}
+
+// The table times f, written out, so that each row of the table is known where it is used; a loop would look
+// it up, and copy f, at each turn.
+#[tactic(auto, unfolding(crate::specs::Elevation::mul_of, crate::specs::Gather::gather))]
+fn table_times(f: Patch) -> Patch
+    ensures { result ≡ mul_of bicubic f }
+{
+    Patch {
+        m: [
+            table_times_at(f, 0, 0),
+            table_times_at(f, 0, 1),
+            table_times_at(f, 0, 2),
+            table_times_at(f, 0, 3),
+            table_times_at(f, 1, 0),
+            table_times_at(f, 1, 1),
+            table_times_at(f, 1, 2),
+            table_times_at(f, 1, 3),
+            table_times_at(f, 2, 0),
+            table_times_at(f, 2, 1),
+            table_times_at(f, 2, 2),
+            table_times_at(f, 2, 3),
+            table_times_at(f, 3, 0),
+            table_times_at(f, 3, 1),
+            table_times_at(f, 3, 2),
+            table_times_at(f, 3, 3),
+        ],
+    }
+}
+
+// f times the turned table.
+#[tactic(auto, unfolding(crate::specs::Elevation::mul_of, crate::specs::Gather::gather))]
+fn times_turned(f: Patch) -> Patch
+    ensures { result ≡ mul_of f (transpose_of bicubic) }
+{
+    Patch {
+        m: [
+            times_turned_at(f, 0, 0),
+            times_turned_at(f, 0, 1),
+            times_turned_at(f, 0, 2),
+            times_turned_at(f, 0, 3),
+            times_turned_at(f, 1, 0),
+            times_turned_at(f, 1, 1),
+            times_turned_at(f, 1, 2),
+            times_turned_at(f, 1, 3),
+            times_turned_at(f, 2, 0),
+            times_turned_at(f, 2, 1),
+            times_turned_at(f, 2, 2),
+            times_turned_at(f, 2, 3),
+            times_turned_at(f, 3, 0),
+            times_turned_at(f, 3, 1),
+            times_turned_at(f, 3, 2),
+            times_turned_at(f, 3, 3),
+        ],
+    }
+}
+
+// The coefficients of the surface with the corners, slopes and twists f: the table times f, times the turned
+// table, which is never made.
+#[tactic(auto, unfolding(crate::specs::Elevation::coefficients_of))]
 pub fn coefficients(f: Patch) -> Patch
     ensures { result ≡ coefficients_of f }
 {
-    let a = Patch { m: A };
-    let b = Patch { m: A_TRANSPOSED };
-    mul(mul(a, f), b)
+    times_turned(table_times(f))
 }
 
 // The height of the surface at (x, y): the sum of its terms, row by row.
