@@ -44,6 +44,23 @@ int main(void)
     printf("normals %u, indices %u, spans %u\n", (unsigned)n, (unsigned)i, (unsigned)s);
     struct rs_mesh mesh = {vertices, v, normals, n, indices, i, spans, s};
 
+    /* the lane twice as one mesh, which is asked for a height; with a normal too few the call is turned back first */
+    float both_vertices[24], both_normals[24];
+    uint32_t both_indices[12] = {99}, both_spans[10];
+    struct rs_room both = {both_vertices, 8, both_normals, 8, both_indices, 12, both_spans, 2};
+    struct rs_mesh odd = mesh;
+    odd.normals_count = 3;
+    n = i = s = 99;
+    count("rs_join", rs_join_of(&mesh, &odd, &both, &n, &i, &s));
+    printf("left as they were %u %u %u, index 0 is %u\n", (unsigned)n, (unsigned)i, (unsigned)s, (unsigned)both_indices[0]);
+    count("rs_join", rs_join_of(&mesh, &mesh, &both, &n, &i, &s));
+    printf("normals %u, indices %u, spans %u\n", (unsigned)n, (unsigned)i, (unsigned)s);
+    printf("index 7 is %u, the second span's first vertex %u\n", (unsigned)both_indices[7], (unsigned)both_spans[6]);
+    struct rs_mesh whole = {both_vertices, 8, both_normals, 8, both_indices, 12, both_spans, 2};
+    uint32_t record[RS_RECORD_WORDS];
+    count("rs_height_at", rs_height_at_of(&whole, 5, 1, record));
+    printf("height %g, triangle %u\n", RS_SINGLE(record[1]), (unsigned)record[5]);
+
     uint32_t place = 99, index_past = 99, of = 99;
     count("rs_validate", rs_validate_of(&mesh, &place, &index_past, &of));
     printf("left as they were %u %u %u\n", (unsigned)place, (unsigned)index_past, (unsigned)of);
@@ -59,7 +76,7 @@ int main(void)
     count("rs_verdict_read", rs_verdict_read(sentence, many - 1, &read[0], &read[1], &read[2]));
     indices[4] = 3;
 
-    uint32_t record[RS_RECORD_WORDS], index[64], records[2 * RS_RECORD_WORDS];
+    uint32_t index[64], records[2 * RS_RECORD_WORDS];
     count("rs_height_at", rs_height_at_of(&mesh, 5, 1, record));
     printf("height %g, lane told %u\n", RS_SINGLE(record[1]), (unsigned)record[6]);
     uint32_t words = count("rs_build_index", rs_build_index_of(&mesh, index, 64));

@@ -58,6 +58,18 @@ fn main() {
         spans: &s[..5 * c.spans],
     };
 
+    // the lane twice as one mesh, which is asked for a height; with a normal too few the call is turned back first
+    let (mut bv, mut bn, mut bi, mut bs) = ([0.0; 24], [0.0; 24], [99; 12], [0; 10]);
+    let odd = Mesh { normals: &mesh.normals[..9], ..mesh };
+    told("rs_join", join(mesh, odd, &mut bv, &mut bn, &mut bi, &mut bs), |c| c.vertices);
+    println!("left as they were 99 99 99, index 0 is {}", bi[0]);
+    let c = told("rs_join", join(mesh, mesh, &mut bv, &mut bn, &mut bi, &mut bs), |c| c.vertices).unwrap();
+    println!("normals {}, indices {}, spans {}", c.normals, c.indices, c.spans);
+    println!("index 7 is {}, the second span's first vertex {}", bi[7], bs[6]);
+    let whole = Mesh { vertices: &bv, normals: &bn, indices: &bi, spans: &bs };
+    let p = told("rs_height_at", height_at(whole, 5.0, 1.0), found).flatten().unwrap();
+    println!("height {}, triangle {}", p.height, p.triangle);
+
     let sound = told("rs_validate", validate(mesh), |v| (*v != Verdict::Sound) as usize);
     println!("left as they were{}", if sound.is_some() { " 99 99 99" } else { "" });
     let mut odd = mesh.indices.to_vec();

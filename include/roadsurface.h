@@ -27,6 +27,9 @@
  *                     the call, from 0, as numbered below
  *   RS_NOT_A_VERDICT  of bytes, no verdict's sentence; place: the first byte at which no sentence goes on so, or
  *                     how many bytes there are. Of a kind and counts, no verdict; place: the first that is wrong
+ *   RS_ODD_NORMALS    a part of a joining has not as many normals as vertices; place: the part, 0 or 1
+ *   RS_LOOSE_CORNER   an index of a part is past that part's own vertices; place: the first such index's, in the
+ *                     two parts' index lists laid end to end
  *   RS_FOREIGN_INDEX  the index is not one of this mesh; place: its first unfit word, or its length
  *   RS_BAD_RECORD     a record of a surface file is bad; place: the first such record, from 0
  *   RS_OVERSIZE       a result past its limit; place: the limit
@@ -76,7 +79,9 @@ enum {
     RS_SHORT_OUTPUT = 3,
     RS_FOREIGN_INDEX = 4,
     RS_BAD_RECORD = 5,
-    RS_NOT_A_VERDICT = 6
+    RS_NOT_A_VERDICT = 6,
+    RS_ODD_NORMALS = 7,
+    RS_LOOSE_CORNER = 8
 };
 
 /* The verdicts of rs_validate. */
@@ -175,6 +180,26 @@ uint64_t rs_surface_mesh(
     const float *points, size_t points_count, const float *tangents, size_t tangents_count,
     const float *widths, size_t widths_count, const float *banks, size_t banks_count,
     const uint32_t *lanes, size_t lanes_count,
+    float *vertices, size_t vertices_count, float *normals, size_t normals_count,
+    uint32_t *indices, size_t indices_count, uint32_t *spans, size_t spans_count,
+    uint32_t *normal_count, uint32_t *index_count, uint32_t *span_count);
+
+/* Two meshes as one: vertices, normals, indices and spans of the first, then of the second, whose indices and runs
+ * of vertices move up by the first's vertices and whose runs of indices by the first's indices. Lanes keep their ids.
+ * Where no covering triangle's height is a NaN, rs_height_at of the whole is the higher of what it is of the two, the
+ * first's if they are equal; a triangle of the second has its number moved up by the first's triangles. A mesh of no
+ * elements changes nothing, and of three in a row it is all the same which neighbours are joined first.
+ * Lists: the first's vertices 0, normals 1 (floats), indices 2, spans 3 (words), the second's 4 to 7. Indices not in
+ * threes are RS_RAGGED here, before the spans. Written: vertices and normals (floats, three each), indices (words),
+ * spans (words, five each); they overlap neither mesh.
+ * Count: vertices. normal_count, index_count, span_count: how many normals, indices and spans. */
+uint64_t rs_join(
+    const float *first_vertices, size_t first_vertices_count, const float *first_normals, size_t first_normals_count,
+    const uint32_t *first_indices, size_t first_indices_count, const uint32_t *first_spans, size_t first_spans_count,
+    const float *second_vertices, size_t second_vertices_count,
+    const float *second_normals, size_t second_normals_count,
+    const uint32_t *second_indices, size_t second_indices_count,
+    const uint32_t *second_spans, size_t second_spans_count,
     float *vertices, size_t vertices_count, float *normals, size_t normals_count,
     uint32_t *indices, size_t indices_count, uint32_t *spans, size_t spans_count,
     uint32_t *normal_count, uint32_t *index_count, uint32_t *span_count);
@@ -376,6 +401,22 @@ static inline uint64_t rs_surface_mesh_of(
                            m->normals, rs_elements(m->normals_count, RS_POINT_FLOATS),
                            m->indices, m->indices_count, m->spans, rs_elements(m->spans_count, RS_SPAN_WORDS),
                            normal_count, index_count, span_count);
+}
+
+static inline uint64_t rs_join_of(
+    const struct rs_mesh *a, const struct rs_mesh *b, const struct rs_room *m,
+    uint32_t *normal_count, uint32_t *index_count, uint32_t *span_count)
+{
+    return rs_join(a->vertices, rs_elements(a->vertices_count, RS_POINT_FLOATS),
+                   a->normals, rs_elements(a->normals_count, RS_POINT_FLOATS),
+                   a->indices, a->indices_count, a->spans, rs_elements(a->spans_count, RS_SPAN_WORDS),
+                   b->vertices, rs_elements(b->vertices_count, RS_POINT_FLOATS),
+                   b->normals, rs_elements(b->normals_count, RS_POINT_FLOATS),
+                   b->indices, b->indices_count, b->spans, rs_elements(b->spans_count, RS_SPAN_WORDS),
+                   m->vertices, rs_elements(m->vertices_count, RS_POINT_FLOATS),
+                   m->normals, rs_elements(m->normals_count, RS_POINT_FLOATS),
+                   m->indices, m->indices_count, m->spans, rs_elements(m->spans_count, RS_SPAN_WORDS),
+                   normal_count, index_count, span_count);
 }
 
 /* `record` has eight words. */

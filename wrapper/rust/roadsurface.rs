@@ -40,6 +40,17 @@ mod raw {
             indices: *mut u32, indices_count: usize, spans: *mut u32, spans_count: usize,
             normal_count: *mut u32, index_count: *mut u32, span_count: *mut u32,
         ) -> u64;
+        pub fn rs_join(
+            first_vertices: *const f32, first_vertices_count: usize, first_normals: *const f32, first_normals_count: usize,
+            first_indices: *const u32, first_indices_count: usize, first_spans: *const u32, first_spans_count: usize,
+            second_vertices: *const f32, second_vertices_count: usize,
+            second_normals: *const f32, second_normals_count: usize,
+            second_indices: *const u32, second_indices_count: usize,
+            second_spans: *const u32, second_spans_count: usize,
+            vertices: *mut f32, vertices_count: usize, normals: *mut f32, normals_count: usize,
+            indices: *mut u32, indices_count: usize, spans: *mut u32, spans_count: usize,
+            normal_count: *mut u32, index_count: *mut u32, span_count: *mut u32,
+        ) -> u64;
         pub fn rs_height_at(
             vertices: *const f32, vertices_count: usize, normals: *const f32, normals_count: usize,
             indices: *const u32, indices_count: usize, spans: *const u32, spans_count: usize,
@@ -93,6 +104,10 @@ pub enum Refusal {
     BadRecord(u32),
     /// The first byte at which no verdict's sentence goes on so; or how many bytes there are.
     NotAVerdict(u32),
+    /// This part of a joining, 0 or 1, has not as many normals as vertices.
+    OddNormals(u32),
+    /// The first index past its own part's vertices, in the two parts' index lists laid end to end.
+    LooseCorner(u32),
     /// A number that this page has no name for, and its place: the library is newer than the page.
     Unknown(u32, u32),
     /// The caller's own mistake: fewer records are given than to have this one (`record` alone says so).
@@ -108,6 +123,8 @@ impl Refusal {
             4 => Refusal::ForeignIndex(place),
             5 => Refusal::BadRecord(place),
             6 => Refusal::NotAVerdict(place),
+            7 => Refusal::OddNormals(place),
+            8 => Refusal::LooseCorner(place),
             _ => Refusal::Unknown(number, place),
         }
     }
@@ -121,6 +138,8 @@ impl Refusal {
             Refusal::ForeignIndex(_) => 4,
             Refusal::BadRecord(_) => 5,
             Refusal::NotAVerdict(_) => 6,
+            Refusal::OddNormals(_) => 7,
+            Refusal::LooseCorner(_) => 8,
             Refusal::Unknown(number, _) => number,
             Refusal::NoRecord(_) => 0,
         }
@@ -134,6 +153,8 @@ impl Refusal {
             | Refusal::ForeignIndex(p)
             | Refusal::BadRecord(p)
             | Refusal::NotAVerdict(p)
+            | Refusal::OddNormals(p)
+            | Refusal::LooseCorner(p)
             | Refusal::Unknown(_, p) => p,
             Refusal::NoRecord(k) => u32::try_from(k).unwrap_or(u32::MAX),
         }
@@ -297,6 +318,35 @@ pub fn surface_mesh(
             l.points.as_ptr(), l.points.len(), l.tangents.as_ptr(), l.tangents.len(),
             l.widths.as_ptr(), l.widths.len(), l.banks.as_ptr(), l.banks.len(),
             l.lanes.as_ptr(), l.lanes.len(),
+            vertices.as_mut_ptr(), vertices.len(), normals.as_mut_ptr(), normals.len(),
+            indices.as_mut_ptr(), indices.len(), spans.as_mut_ptr(), spans.len(),
+            &mut of_normals, &mut of_indices, &mut of_spans,
+        )
+    };
+    count(code).map(|vertices| Counts {
+        vertices,
+        normals: of_normals as usize,
+        indices: of_indices as usize,
+        spans: of_spans as usize,
+    })
+}
+
+/// Two meshes as one: the lists of the first, then those of the second with its numbers moved up.
+pub fn join(
+    a: Mesh,
+    b: Mesh,
+    vertices: &mut [f32],
+    normals: &mut [f32],
+    indices: &mut [u32],
+    spans: &mut [u32],
+) -> Result<Counts, Refusal> {
+    let (mut of_normals, mut of_indices, mut of_spans) = (0, 0, 0);
+    let code = unsafe {
+        raw::rs_join(
+            a.vertices.as_ptr(), a.vertices.len(), a.normals.as_ptr(), a.normals.len(),
+            a.indices.as_ptr(), a.indices.len(), a.spans.as_ptr(), a.spans.len(),
+            b.vertices.as_ptr(), b.vertices.len(), b.normals.as_ptr(), b.normals.len(),
+            b.indices.as_ptr(), b.indices.len(), b.spans.as_ptr(), b.spans.len(),
             vertices.as_mut_ptr(), vertices.len(), normals.as_mut_ptr(), normals.len(),
             indices.as_mut_ptr(), indices.len(), spans.as_mut_ptr(), spans.len(),
             &mut of_normals, &mut of_indices, &mut of_spans,

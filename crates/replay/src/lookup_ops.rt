@@ -26,7 +26,7 @@ fn put_found(answer: &mut Answer, height: f32, normal: Vector, triangle: usize) 
 }
 
 // An answer of seven words.
-fn put_plain(answer: &mut Answer, found: Result<Option<Found>, Refusal>) {
+pub(crate) fn put_plain(answer: &mut Answer, found: Result<Option<Found>, Refusal>) {
     match found {
         Ok(Some(f)) => put_found(answer, f.height, f.normal, f.triangle),
         Ok(None) => answer.zeros(7),

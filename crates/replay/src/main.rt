@@ -7,6 +7,7 @@
 mod bytes;
 mod file_ops;
 mod grid_ops;
+mod join_ops;
 mod junction_ops;
 mod lists;
 mod lookup_ops;

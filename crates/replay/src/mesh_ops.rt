@@ -12,7 +12,7 @@ pub(crate) fn no_area_case(case: &mut Case, answer: &mut Answer) -> Option<()> {
 
 // ---- surface_mesh
 
-fn put_counts(answer: &mut Answer, made: MeshCounts) {
+pub(crate) fn put_counts(answer: &mut Answer, made: MeshCounts) {
     answer.word(0);
     answer.number(made.vertices);
     answer.number(made.normals);

@@ -1,5 +1,7 @@
 // The operations of all layers.
-use crate::{file_ops, grid_ops, junction_ops, lookup_ops, mesh_ops, outline_ops, verdict_ops};
+use crate::{
+    file_ops, grid_ops, join_ops, junction_ops, lookup_ops, mesh_ops, outline_ops, verdict_ops,
+};
 use shape::elevation::{height, height_at};
 use std::fmt;
 use stored::answer::Answer;
@@ -37,6 +39,7 @@ pub enum UpperOp {
     ReadSentence,
     Held,
     File,
+    Join,
 }
 
 impl TryFrom<u32> for UpperOp {
@@ -67,6 +70,7 @@ impl TryFrom<u32> for UpperOp {
             47 => UpperOp::ReadSentence,
             48 => UpperOp::Held,
             49 => UpperOp::File,
+            50 => UpperOp::Join,
             _ => return Err(UnknownOp(number)),
         })
     }
@@ -98,6 +102,7 @@ impl fmt::Display for UpperOp {
             UpperOp::ReadSentence => "read_sentence",
             UpperOp::Held => "held",
             UpperOp::File => "file",
+            UpperOp::Join => "join",
         })
     }
 }
@@ -131,6 +136,7 @@ impl UpperOp {
             UpperOp::ReadSentence => verdict_ops::read_case(case, answer),
             UpperOp::Held => file_ops::held_case(case, answer),
             UpperOp::File => file_ops::file_case(case, answer),
+            UpperOp::Join => join_ops::join_case(case, answer),
         }
     }
 }

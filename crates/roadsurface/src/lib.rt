@@ -14,6 +14,7 @@ ghost use Rattle.shape.specs.JunctionMesh.{ground, ground_answer, ground_mesh};
 ghost use Rattle.shape.specs.MeshMemory.{leaves_mesh};
 ghost use Rattle.shape.specs.SurfaceMesh.{given, mesh_of, answer_of};
 ghost use Rattle.shape.specs.Verdict.{validity_of, read_verdict};
+ghost use Rattle.joining.specs.Join.{join_of, join_answer};
 ghost use Rattle.lookup.specs.Index.{index_words, build_of};
 ghost use Rattle.lookup.specs.Sampler.{top_of};
 ghost use Rattle.lookup.specs.Batch.{word_for, record_of, records_of, tops_of};
@@ -24,6 +25,7 @@ ghost use Rattle.surface.specs.Sentence.{read_sentence};
 ghost use Rattle.roadsurface.specs.Answers.{code_of, left_in, bit_of, found_in, height_put, kind_of, place_put, index_put, vertices_put, grid_of, grid_if, counts_used, verdict_given, written_answer, written_of, ring_floats, plain_answer};
 
 use crate::tell::{tell_count, tell_elevation, tell_mesh, tell_outline, tell_verdict};
+use joining::join::join;
 use lookup::batch::tops;
 use lookup::grid::build;
 use lookup::record::{height_record, top_record};
@@ -228,6 +230,63 @@ pub extern "C" fn rs_surface_mesh(
     };
     let a = surface_mesh(given, vertices, normals, indices, spans);
     tell_mesh(a, normal_count, index_count, span_count)
+}
+
+// Two meshes as one: how many vertices. Told beside it: how many normals, indices and spans.
+#[unsafe(no_mangle)]
+pub extern "C" fn rs_join(
+    first_vertices: &[f32],
+    first_normals: &[f32],
+    first_indices: &[u32],
+    first_spans: &[u32],
+    second_vertices: &[f32],
+    second_normals: &[f32],
+    second_indices: &[u32],
+    second_spans: &[u32],
+    vertices: &mut [f32],
+    normals: &mut [f32],
+    indices: &mut [u32],
+    spans: &mut [u32],
+    normal_count: &mut u32,
+    index_count: &mut u32,
+    span_count: &mut u32,
+) -> u64
+    ensures result_value { let a = mesh_lists first_vertices.now first_normals.now first_indices.now first_spans.now in
+        let b = mesh_lists second_vertices.now second_normals.now second_indices.now second_spans.now in
+        let before = mesh_lists vertices.old normals.old indices.old spans.old in
+        result ≡ code_of (λ m. m.vertices) (join_answer a b before) }
+    ensures mesh_after { let a = mesh_lists first_vertices.now first_normals.now first_indices.now first_spans.now in
+        let b = mesh_lists second_vertices.now second_normals.now second_indices.now second_spans.now in
+        let before = mesh_lists vertices.old normals.old indices.old spans.old in
+        let after = mesh_lists vertices.new normals.new indices.new spans.new in
+        after ≡ leaves_mesh (join_answer a b before) (join_of a b) before }
+    ensures normal_count_after { let a = mesh_lists first_vertices.now first_normals.now first_indices.now first_spans.now in
+        let b = mesh_lists second_vertices.now second_normals.now second_indices.now second_spans.now in
+        let before = mesh_lists vertices.old normals.old indices.old spans.old in
+        normal_count.new ≡ left_in (λ m _. word_for m.normals) (join_answer a b before) normal_count.old }
+    ensures index_count_after { let a = mesh_lists first_vertices.now first_normals.now first_indices.now first_spans.now in
+        let b = mesh_lists second_vertices.now second_normals.now second_indices.now second_spans.now in
+        let before = mesh_lists vertices.old normals.old indices.old spans.old in
+        index_count.new ≡ left_in (λ m _. word_for m.indices) (join_answer a b before) index_count.old }
+    ensures span_count_after { let a = mesh_lists first_vertices.now first_normals.now first_indices.now first_spans.now in
+        let b = mesh_lists second_vertices.now second_normals.now second_indices.now second_spans.now in
+        let before = mesh_lists vertices.old normals.old indices.old spans.old in
+        span_count.new ≡ left_in (λ m _. word_for m.spans) (join_answer a b before) span_count.old }
+{
+    let first = Mesh {
+        vertices: first_vertices,
+        normals: first_normals,
+        indices: first_indices,
+        spans: first_spans,
+    };
+    let second = Mesh {
+        vertices: second_vertices,
+        normals: second_normals,
+        indices: second_indices,
+        spans: second_spans,
+    };
+    let whole = join(first, second, vertices, normals, indices, spans);
+    tell_mesh(whole, normal_count, index_count, span_count)
 }
 
 // The plain lookup: 1 found or 0 none, and its record, which names no lane.

@@ -2,7 +2,7 @@
 -- Definitions only. Assumes nothing.
 use Rattle.std.specs.Prelude.{ℕ, Bool, cond, List, ◌++◌, length, drop, Result, Ok, Err}
 use Rattle.shape.specs.declared.refusal.Refusal.{Refusal}
-use Rattle.shape.specs.declared.refusal.Refusal.TheVariants.{Oversize, Ragged, ShortOutput, ForeignIndex, BadRecord, NotAVerdict}
+use Rattle.shape.specs.declared.refusal.Refusal.TheVariants.{Oversize, Ragged, ShortOutput, ForeignIndex, BadRecord, NotAVerdict, OddNormals, LooseCorner}
 
 -- the table's number and place of each case
 unfoldable pub number_of : Refusal → ℕ
@@ -12,6 +12,8 @@ number_of (ShortOutput wanted) = 3
 number_of (ForeignIndex word) = 4
 number_of (BadRecord record') = 5
 number_of (NotAVerdict byte) = 6
+number_of (OddNormals part) = 7
+number_of (LooseCorner place) = 8
 
 unfoldable pub place_of : Refusal → ℕ
 place_of (Oversize limit) = limit
@@ -20,6 +22,8 @@ place_of (ShortOutput wanted) = wanted
 place_of (ForeignIndex word) = word
 place_of (BadRecord record') = record'
 place_of (NotAVerdict byte) = byte
+place_of (OddNormals part) = part
+place_of (LooseCorner place) = place
 
 -- nothing is at fault, or the first fault by its number and place
 pub data Fault : Type 0 where

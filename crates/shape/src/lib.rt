@@ -6,7 +6,7 @@ pub mod elevation;
 pub mod junction;
 pub mod junction_areas;
 pub mod lists;
-mod memory;
+pub mod memory;
 pub mod mesh;
 pub mod refusal;
 mod rib;

@@ -11,7 +11,7 @@ use crate::refusal::{Refusal, refuse_if};
 
 // How long the lists of a mesh are, in their elements.
 #[derive(Clone, Copy)]
-pub(crate) struct Lengths {
+pub struct Lengths {
     pub vertices: usize,
     pub normals: usize,
     pub indices: usize,
@@ -59,7 +59,7 @@ fn result_short(made: Lengths, lent: Lengths) -> Result<(), Refusal>
 }
 
 // Why a mesh is not written into lent lists, if it is not. Every call that makes a mesh asks this.
-pub(crate) fn room_fault(made: Lengths, lent: Lengths) -> Result<(), Refusal>
+pub fn room_fault(made: Lengths, lent: Lengths) -> Result<(), Refusal>
     ensures { found result ≡ room_fault made lent }
 {
     made.limits()?;

@@ -19,12 +19,16 @@ pub enum Refusal {
     BadRecord(usize),
     // The first byte at which no verdict's sentence goes on so, or how many bytes there are.
     NotAVerdict(usize),
+    // The part of a joining, 0 or 1, whose normals and vertices differ in count.
+    OddNormals(usize),
+    // The place of the first index past its own part's vertices, in the two index lists laid end to end.
+    LooseCorner(usize),
 }
 
 impl Refusal {
     // Its number in the table.
     pub fn number(self) -> u32
-        ensures { (result ≡ number_of self) × (result < 7) }
+        ensures { (result ≡ number_of self) × (result < 9) }
     {
         match self {
             Refusal::Oversize(_) => 1,
@@ -33,6 +37,8 @@ impl Refusal {
             Refusal::ForeignIndex(_) => 4,
             Refusal::BadRecord(_) => 5,
             Refusal::NotAVerdict(_) => 6,
+            Refusal::OddNormals(_) => 7,
+            Refusal::LooseCorner(_) => 8,
         }
     }
 
@@ -47,6 +53,8 @@ impl Refusal {
             Refusal::ForeignIndex(word) => word,
             Refusal::BadRecord(record) => record,
             Refusal::NotAVerdict(byte) => byte,
+            Refusal::OddNormals(part) => part,
+            Refusal::LooseCorner(place) => place,
         }
     }
 }

@@ -150,6 +150,25 @@ fn shapes(b: &Bench) {
             || { ours::surface_mesh(black_box(&l), &mut v, &mut n, &mut i, &mut s).expect("mesh"); },
         );
     }
+    let first = ops::surface_mesh(road_lanes(50, 326));
+    let second = first.clone();
+    let (a, c) = (Lists::of(&first), Lists::of(&second));
+    let (mut v, mut n, mut i, mut s) = (vec![0.0; 3 * 65_536], vec![0.0; 3 * 65_536], vec![0; 196_608], vec![0; 5 * 1024]);
+    let mut whole = Mesh::default();
+    b.pair(
+        &format!("join, {} and {} triangles", first.indices.len() / 3, second.indices.len() / 3), 1, 1.3,
+        || {
+            // its lists have room already
+            whole.vertices.clear();
+            whole.normals.clear();
+            whole.indices.clear();
+            whole.lanes.clear();
+            joined::extend(&mut whole, black_box(&first));
+            joined::extend(&mut whole, black_box(&second));
+            black_box(&mut whole);
+        },
+        || { ours::join(black_box(&a), black_box(&c), &mut v, &mut n, &mut i, &mut s).expect("whole"); },
+    );
     let ring = round_ring(200, 25.0, 0.05);
     let grid = smooth_grid(9, 4, 8.0);
     let area = JunctionArea { od_id: String::new(), boundary: ring.clone(), grid: Some(grid.clone()) };

@@ -7,7 +7,7 @@ use oracle::words::{In, Out};
 type R<T> = Result<T, String>;
 
 pub const OPS: &[&str] = &[
-    "elevation_height", "elevation_height_at", "ring", "ear_clip", "junction_mesh", "surface_mesh", "validate", "height_at", "sampler",
+    "elevation_height", "elevation_height_at", "ring", "ear_clip", "junction_mesh", "surface_mesh", "join", "validate", "height_at", "sampler",
     "indexed", "lookup_words", "probes", "held", "file", "sentence", "read_sentence",
 ];
 
@@ -174,6 +174,82 @@ fn surface_mesh(i: &mut In, o: &mut Out) -> R<()> {
     Ok(())
 }
 
+/// The outputs of a joining, each with so many elements.
+struct Room {
+    v: Vec<f32>,
+    n: Vec<f32>,
+    i: Vec<u32>,
+    s: Vec<u32>,
+}
+
+impl Room {
+    fn of([v, n, i, s]: [usize; 4]) -> Self {
+        Self { v: vec![FLOAT; v], n: vec![FLOAT; n], i: vec![WORD; i], s: vec![WORD; s] }
+    }
+
+    fn join(&mut self, a: &Lists, b: &Lists) -> Result<[usize; 4], Refused> {
+        ours::join(a, b, &mut self.v, &mut self.n, &mut self.i, &mut self.s)
+    }
+
+    fn untouched(&self, [v, n, i, s]: [usize; 4]) -> R<()> {
+        untouched(&self.v, v, FLOAT)?;
+        untouched(&self.n, n, FLOAT)?;
+        untouched(&self.i, i, WORD)?;
+        untouched(&self.s, s, WORD)
+    }
+}
+
+fn join(i: &mut In, o: &mut Out) -> R<()> {
+    let (a, b) = (Lists::of(&i.mesh()?), Lists::of(&i.mesh()?));
+    let q = i.queries()?;
+    let sizes = [
+        a.vertices.len() + b.vertices.len(), a.normals.len() + b.normals.len(), a.indices.len() + b.indices.len(),
+        a.spans.len() + b.spans.len(),
+    ];
+    let mut room = Room::of(sizes.map(|n| n + 7));
+    let [v, n, k, s] = match room.join(&a, &b) {
+        Ok(counts) => counts,
+        Err(r) => {
+            room.untouched([0; 4])?;
+            o.u(r.number);
+            o.u(r.place);
+            return Ok(());
+        }
+    };
+    if [3 * v, 3 * n, k, 5 * s] != sizes {
+        return Err(format!("told {v}, {n}, {k}, {s} of {sizes:?}"));
+    }
+    room.untouched(sizes)?;
+    // one element too few of one output, and just enough of the others
+    for short in 0..4 {
+        let mut few = sizes;
+        few[short] = few[short].saturating_sub(1);
+        let mut less = Room::of(few);
+        let said = less.join(&a, &b);
+        if few != sizes && said != Err(Refused { number: 3, place: sizes[short] as u32 }) {
+            return Err(format!("short of {} in output {short}: {said:?}", sizes[short]));
+        }
+        if said.is_err() {
+            less.untouched([0; 4])?;
+        }
+    }
+    let [v, n, k, s] = sizes;
+    let whole = Lists { vertices: room.v[..v].to_vec(), normals: room.n[..n].to_vec(), indices: room.i[..k].to_vec(), spans: room.s[..s].to_vec() };
+    o.u(0);
+    o.u(v as u32 / 3);
+    floats(o, &whole.vertices);
+    o.u(n as u32 / 3);
+    floats(o, &whole.normals);
+    o.list(&whole.indices, |o, &w| o.u(w));
+    o.u(s as u32 / 5);
+    whole.spans.iter().for_each(|&w| o.u(w));
+    o.u(q.len() as u32);
+    for (x, y) in q {
+        ours::height_at(&whole, x, y).or_else(refused)?[..6].iter().for_each(|&w| o.u(w));
+    }
+    Ok(())
+}
+
 fn index_of(m: &Lists) -> R<Vec<u32>> {
     let mut empty: [u32; 0] = [];
     let wanted = match ours::build(m, &mut empty) {
@@ -324,6 +400,7 @@ pub fn one(op: &str, i: &mut In, o: &mut Out) -> R<()> {
         "ear_clip" => ear_clip(i, o),
         "junction_mesh" => junction_mesh(i, o),
         "surface_mesh" => surface_mesh(i, o),
+        "join" => join(i, o),
         "validate" => {
             let a = ours::validate(&Lists::of(&i.mesh()?)).or_else(refused)?;
             a.iter().for_each(|&w| o.u(w));

@@ -31,6 +31,14 @@ mod c {
             vertices: *mut f32, vertices_len: usize, normals: *mut f32, normals_len: usize, indices: *mut u32, indices_len: usize,
             spans: *mut u32, spans_len: usize, normal_count: *mut u32, index_count: *mut u32, span_count: *mut u32,
         ) -> u64;
+        pub fn rs_join(
+            first_vertices: *const f32, first_vertices_len: usize, first_normals: *const f32, first_normals_len: usize,
+            first_indices: *const u32, first_indices_len: usize, first_spans: *const u32, first_spans_len: usize,
+            second_vertices: *const f32, second_vertices_len: usize, second_normals: *const f32, second_normals_len: usize,
+            second_indices: *const u32, second_indices_len: usize, second_spans: *const u32, second_spans_len: usize,
+            vertices: *mut f32, vertices_len: usize, normals: *mut f32, normals_len: usize, indices: *mut u32, indices_len: usize,
+            spans: *mut u32, spans_len: usize, normal_count: *mut u32, index_count: *mut u32, span_count: *mut u32,
+        ) -> u64;
         pub fn rs_validate(
             vertices: *const f32, vertices_len: usize, normals: *const f32, normals_len: usize, indices: *const u32, indices_len: usize,
             spans: *const u32, spans_len: usize, place: *mut u32, index: *mut u32, vertex_count: *mut u32,
@@ -240,6 +248,18 @@ macro_rules! mesh {
             )
         }
     };
+}
+
+/// Vertices, normals, indices, spans.
+pub fn join(a: &Lists, b: &Lists, v: &mut [f32], n: &mut [f32], i: &mut [u32], s: &mut [u32]) -> Result<[usize; 4], Refused> {
+    let mut counts = [BEFORE; 3];
+    let [normals, indices, spans] = &mut counts;
+    let said = told(mesh!(
+        rs_join, a, b.vertices.as_ptr(), b.vertices.len(), b.normals.as_ptr(), b.normals.len(), b.indices.as_ptr(), b.indices.len(),
+        b.spans.as_ptr(), b.spans.len(), v.as_mut_ptr(), v.len(), n.as_mut_ptr(), n.len(), i.as_mut_ptr(), i.len(),
+        s.as_mut_ptr(), s.len(), normals, indices, spans
+    ));
+    Ok([unwritten(said, &counts)?, counts[0] as usize, counts[1] as usize, counts[2] as usize])
 }
 
 /// The kind and three counts; a count that the kind does not tell must be left as it was, and is 0 here.

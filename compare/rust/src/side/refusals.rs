@@ -43,6 +43,35 @@ fn mesh_ragged(m: &Lists) -> Fault {
         .or(is(m.spans.len() % 5 != 0 || ragged(&m.spans, 5, 1, m.vertices.len() / 3) || ragged(&m.spans, 5, 3, m.indices.len()), 2, 3))
 }
 
+/// A part of a joining, whose lists stand from `p` on.
+fn part_ragged(m: &Lists, p: u32) -> Fault {
+    let spans = m.spans.len() % 5 != 0 || ragged(&m.spans, 5, 1, m.vertices.len() / 3) || ragged(&m.spans, 5, 3, m.indices.len());
+    is(m.vertices.len() % 3 != 0, 2, p)
+        .or(is(m.normals.len() % 3 != 0, 2, p + 1))
+        .or(is(m.indices.len() % 3 != 0, 2, p + 2))
+        .or(is(spans, 2, p + 3))
+}
+
+fn odd_normals(m: &Lists, part: u32) -> Fault {
+    is(m.normals.len() / 3 != m.vertices.len() / 3, 7, part)
+}
+
+fn loose_corner(m: &Lists, before: usize) -> Fault {
+    let k = m.indices.iter().position(|&w| w as usize >= m.vertices.len() / 3);
+    k.map(|k| Refused { number: 8, place: (before + k) as u32 })
+}
+
+fn join_fault(a: &Lists, b: &Lists) -> Fault {
+    mesh_limits(a)
+        .or(mesh_limits(b))
+        .or(part_ragged(a, 0))
+        .or(part_ragged(b, 4))
+        .or(odd_normals(a, 0))
+        .or(odd_normals(b, 1))
+        .or(loose_corner(a, 0))
+        .or(loose_corner(b, a.indices.len()))
+}
+
 fn grid_limits(g: &GridLists) -> Fault {
     is(g.rows.len() > 6 * 1024 || long(&g.rows, 6, 2, 1024) || long(&g.rows, 6, 4, 1024), 1, 1024)
 }
@@ -137,6 +166,22 @@ fn mesh(r: &mut Rng) -> Lists {
     m
 }
 
+/// A part of a joining, mostly with a normal for each vertex, whole triples and no loose corner.
+fn part(r: &mut Rng) -> Lists {
+    let mut m = mesh(r);
+    if !r.once(6) {
+        m.normals.resize(m.vertices.len(), 0.5);
+    }
+    if !r.once(6) {
+        m.indices.resize(m.indices.len() / 3 * 3, 0);
+    }
+    if !r.once(6) {
+        let n = (m.vertices.len() / 3) as u32;
+        m.indices.iter_mut().for_each(|w| *w = if n == 0 { *w } else { *w % n });
+    }
+    m
+}
+
 fn grid(r: &mut Rng) -> GridLists {
     let count = match r.below(40) {
         0 => 1024,
@@ -165,7 +210,7 @@ fn lanes(r: &mut Rng) -> LaneLists {
 // ---- the calls
 
 pub const CALLS: &[&str] = &[
-    "height", "ring", "ear_clip", "junction_mesh", "surface_mesh", "validate", "height_at", "build", "top", "tops", "verdict_write",
+    "height", "ring", "ear_clip", "junction_mesh", "surface_mesh", "join", "validate", "height_at", "build", "top", "tops", "verdict_write",
     "surface_read", "surface_write",
 ];
 
@@ -247,6 +292,27 @@ pub fn case(call: &str, seed: u64, k: u64) -> Case {
             let (mut i, mut s) = (vec![WORD; r.below(100)], vec![WORD; r.below(30)]);
             let said = ours::surface_mesh(&l, &mut v, &mut n, &mut i, &mut s).err();
             Case { wanted: lane_fault(&l), whole: false, said, kept: kept(&v, FLOAT) && kept(&n, FLOAT) && kept(&i, WORD) && kept(&s, WORD) }
+        }
+        "join" => {
+            let (a, b) = (part(r), part(r));
+            let sizes = [
+                a.vertices.len() + b.vertices.len(), a.normals.len() + b.normals.len(), a.indices.len() + b.indices.len(),
+                a.spans.len() + b.spans.len(),
+            ];
+            let [cv, cn, ci, cs] = sizes.map(|n| if r.once(2) { n + r.below(4) } else { room(r, n) });
+            let (mut v, mut n, mut i, mut s) = (vec![FLOAT; cv], vec![FLOAT; cn], vec![WORD; ci], vec![WORD; cs]);
+            let said = ours::join(&a, &b, &mut v, &mut n, &mut i, &mut s).err();
+            let [av, an, ai, asp] = sizes;
+            let wanted = join_fault(&a, &b)
+                .or(is(av > 3 * 65_536, 1, 65_536))
+                .or(is(an > 3 * 65_536, 1, 65_536))
+                .or(is(ai > 196_608, 1, 196_608))
+                .or(is(asp > 5 * 1024, 1, 1024))
+                .or(is(cv < av, 3, av as u32))
+                .or(is(cn < an, 3, an as u32))
+                .or(is(ci < ai, 3, ai as u32))
+                .or(is(cs < asp, 3, asp as u32));
+            Case { wanted, whole: true, said, kept: kept(&v, FLOAT) && kept(&n, FLOAT) && kept(&i, WORD) && kept(&s, WORD) }
         }
         "verdict_write" => {
             let mut odd = |n: usize| if r.once(3) { r.next() as u32 } else { r.below(n) as u32 };

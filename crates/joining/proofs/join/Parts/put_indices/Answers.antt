@@ -1,0 +1,17 @@
+-- `joining::join::Parts::put_indices` meets its contract: the first part's are copied, and the second's moved up behind them. Assumes nothing.
+use Rattle.std.proofs.Common.{refl, arith}
+use Rattle.shape.specs.Lists.{lists_of}
+use Rattle.joining.proofs.Putting.{front_put}
+use Rattle.joining.proofs.Joining.{indices_fit, indices_put}
+use Rattle.joining.proofs.join.Parts.put_indices.Goals as goal
+
+pub put_moved-requires-clause-fits : goal.put_moved-requires-clause-fits
+put_moved-requires-clause-fits c =
+    let s = c.args.self in
+    rw c.points.ensures (indices_fit (lists_of s.first) (lists_of s.second) s.sound)
+
+pub returns : goal.returns
+returns c =
+    let s = c.args.self in
+    indices_put (lists_of s.first) (lists_of s.second) (front_put c.args.out.now c.copy_from_slice.ensures.after refl (omega arith))
+    (rw c.points.ensures at c.put_moved.ensures)

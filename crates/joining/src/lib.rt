@@ -1,0 +1,4 @@
+// Two meshes as one (document 02, "Lanes and junctions as one surface").
+#![tactic(auto)]
+
+pub mod join;
