@@ -63,12 +63,13 @@ struct Memory {
     made: [u32; 32768],
 }
 
-// Works one case of an operation, if it is known. Where there is no answer, that is a difference.
-fn judge(op: Option<Op>, given: &[u32], made: &mut [u32], wanted: &[u32]) -> Outcome {
+// Works one case of an operation, if it is known: the first n words given. Where there is no answer, that is a
+// difference.
+fn judge(op: Option<Op>, given: &[u32], n: usize, made: &mut [u32], wanted: &[u32]) -> Outcome {
     let Some(op) = op else {
         return Outcome::Differs;
     };
-    if op.answer(given, made) != Some(wanted) {
+    if op.answer(given, n, made) != Some(wanted) {
         return Outcome::Differs;
     }
     if op.may_panic() && wanted.first() == Some(&0) {
@@ -85,9 +86,9 @@ fn case<R: Read>(op: Option<Op>, input: &mut Words<R>, memory: &mut Memory) -> O
         wanted,
         made,
     } = memory;
-    let given = input.list(given)?;
+    let n = input.list(given)?.len();
     let wanted = input.list(wanted)?;
-    Some(judge(op, given, made, wanted))
+    Some(judge(op, given, n, made, wanted))
 }
 
 // The n cases of an operation, or those before the list is broken.

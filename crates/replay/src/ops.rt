@@ -188,11 +188,21 @@ impl Op {
     }
 
     // The words of the answer to a case, put to the start of `made`. There is none to a case that has no words, or
-    // not as many as the operation takes, or that there is no room for.
-    pub(crate) fn answer<'m>(self, given: &[u32], made: &'m mut [u32]) -> Option<&'m [u32]> {
-        if given.is_empty() {
+    // not as many as the operation takes, or that there is no room for. The case is the first n words of `memory`;
+    // an operation from the shapes on that asks for more reads on there.
+    pub(crate) fn answer<'m>(
+        self,
+        memory: &[u32],
+        n: usize,
+        made: &'m mut [u32],
+    ) -> Option<&'m [u32]> {
+        if n == 0 {
             return None;
         }
+        let given = match self {
+            Op::Rounding(_) | Op::Vector(_) => memory.get(..n)?,
+            Op::Upper(_) | Op::AtLimits(_) => memory,
+        };
         let mut case = Case::new(given);
         let mut answer = Answer::new(made);
         match self {

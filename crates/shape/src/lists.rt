@@ -136,6 +136,14 @@ pub fn part<T>(xs: &[T], a: usize, e: usize) -> &[T]
 
 // ---- records and their runs
 
+// Word j of record k, in a list of records of `width` words, 0 past the list's end. A place past every number is
+// past the list too.
+pub fn record_word(ws: &[u32], width: usize, k: usize, j: usize) -> usize
+    ensures { (result ≡ word_of width ws.now k j) × (result < 2 ^ 32) }
+{
+    word_at(ws, width.saturating_mul(k).saturating_add(j))
+}
+
 // Records of WIDTH words as they are lent, and what part of one may follow them. A run's start is word `a`
 // of its record and its end the word after it.
 #[derive(Clone, Copy)]
@@ -152,11 +160,11 @@ impl<const WIDTH: usize> Records<'_, WIDTH> {
         self.words.len() / WIDTH
     }
 
-    // Word j of record k, 0 past the list's end. A place past every number is past the list too.
+    // Word j of record k, 0 past the list's end.
     pub fn word(self, k: usize, j: usize) -> usize
         ensures { (result ≡ word_of WIDTH self.entry.words.now k j) × (result < 2 ^ 32) }
     {
-        word_at(self.words, WIDTH.saturating_mul(k).saturating_add(j))
+        record_word(self.words, WIDTH, k, j)
     }
 
     // Word j of a whole record. Nothing is tested.
