@@ -10,7 +10,7 @@ ghost use Rattle.shape.specs.Ears.{before, after, at, cross, turns_left, inside,
 ghost use Rattle.shape.specs.EarSteps.{Within, Cut};
 
 use crate::lists::{MAX_RING, index_after, whole_point};
-use crate::memory::put;
+use crate::memory::{copy, put};
 use crate::refusal::{Refusal, refuse_if};
 use vector::coords::Point;
 
@@ -206,7 +206,9 @@ fn remove(left: &mut [u32], k: usize)
     requires { k < length left.old }
     ensures { take (length left.old - 1) left.new ≡ without left.old k }
 {
-    left[k..].copy_within(1.., 0);
+    for i in k..left.len() - 1 {
+        left[i] = left[i + 1];
+    }
 }
 
 // The first ear of the points left is put from `at` on, and its corner taken out.
@@ -275,6 +277,6 @@ pub fn ear_clip(ring: &[f32], out: &mut [u32]) -> Result<usize, Refusal>
     let ears = clip(ring, &mut memory).numbers;
     let wanted = ears.len();
     refuse_if(out.len() < wanted, Refusal::ShortOutput(wanted))?;
-    out[..wanted].copy_from_slice(ears);
+    copy(ears, out);
     Ok(wanted / 3)
 }

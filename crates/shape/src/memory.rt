@@ -1,7 +1,7 @@
 // Lent memory: whether a mesh has room in it, and what is put into it.
 #![tactic(auto, unfolding(crate::specs::Refusal::found, crate::specs::Refusal::refuse, crate::specs::Refusal::number_of, crate::specs::Refusal::place_of, crate::specs::Refusal::or_else, crate::specs::MeshMemory::result_limits, crate::specs::MeshMemory::result_short, crate::specs::MeshMemory::room_fault))]
 
-ghost use Rattle.std.specs.Prelude.{◌≡◌, ◌+◌, ◌<◌, ◌≤◌, length};
+ghost use Rattle.std.specs.Prelude.{◌≡◌, ◌+◌, ◌<◌, ◌≤◌, ◌++◌, min, length, take, drop};
 ghost use Rattle.shape.specs.Memory.{Put};
 ghost use Rattle.shape.specs.Refusal.{found};
 ghost use Rattle.shape.specs.MeshMemory.{result_limits, result_short, room_fault};
@@ -64,6 +64,19 @@ pub fn room_fault(made: Lengths, lent: Lengths) -> Result<(), Refusal>
 {
     made.limits()?;
     result_short(made, lent)
+}
+
+// The elements to the front of the memory, as many as there is room for, and how many. One by one: the library's
+// `copy_from_slice` would have an archive for C ask for `memmove`.
+pub fn copy<T: Copy>(xs: &[T], out: &mut [T]) -> usize
+    ensures value { result ≡ min (length xs.now) (length out.old) }
+    ensures out_after { out.new ≡ take result xs.now ++ drop result out.old }
+{
+    let n = xs.len().min(out.len());
+    for i in 0..n {
+        out[i] = xs[i];
+    }
+    n
 }
 
 // The elements of an array into the memory, from `at` on, and where they end.

@@ -1,7 +1,8 @@
 -- Runs of stores: one after another, and read back from the front. Assumes nothing.
-use Rattle.std.specs.Prelude.{◌≡◌, ℕ, suc, ◌+◌, ◌<◌, ◌≤◌, List, [], ◌∷◌, ◌++◌, length, take, drop, set, get_or, refl}
-use Rattle.std.proofs.Common.{sym, ap, ◌∙◌, add-zero, add-one, zero-add, add-suc, suc-add, arith, length-append, append_assoc, drop-drop}
-use Rattle.std.proofs.lemmas.List.Edits.{sets, sets-eq}
+use Rattle.std.specs.Prelude.{◌≡◌, ℕ, suc, ◌+◌, ◌<◌, ◌≤◌, min, List, [], ◌∷◌, ◌++◌, length, take, drop, set, get_or, refl}
+use Rattle.std.proofs.Common.{sym, ap, ◌∙◌, add-zero, add-one, zero-add, add-suc, suc-add, arith, length-append, append_assoc, append-nil, drop-drop, take_all}
+use Rattle.std.proofs.lemmas.List.{drop_all}
+use Rattle.std.proofs.lemmas.List.Edits.{sets, sets-eq, paste_more}
 use borrow.Rule.Slice.PartMut.{put_mid}
 use Rattle.std.proofs.Math.Seq.{length-sets, take-append_seam, take-suc}
 use Rattle.shape.specs.Gather.{gather}
@@ -51,6 +52,17 @@ module _ {A : Type 0} where
       → Put out (put_mid at k out ys) at xs next
   put_over out at k {xs} e n p h =
       record { memory = rw (e, n, drop-drop) (sym (sets-eq xs out at h ∙ append_assoc (take at out) xs (drop (at + length xs) out))); ends = p }
+
+  -- ---- a list copied to the front, one by one
+
+  -- one element more
+  pub copied_more : (xs out now : List A) (i : ℕ) (x d : A) → now ≡ take i xs ++ drop i out → x ≡ get_or xs i d → i < length xs → i < length out
+      → set now i x ≡ take (i + 1) xs ++ drop (i + 1) out
+  copied_more xs out now i x d e r h k = rw (e, r) (rw (zero-add i, zero-add (i + 1)) at (paste_more out 0 xs i d (omega arith) h))
+
+  -- over as many others: all of it, and nothing of them
+  pub copied : (xs out : List A) (n : ℕ) → n ≡ min (length xs) (length out) → length out ≡ length xs → take n xs ++ drop n out ≡ xs
+  copied xs out n e h = rw (take_all n xs (omega (arith, e, h)), drop_all n out (omega (arith, e, h))) (append-nil xs)
 
   -- one turn of a loop that puts what f gathers
   pub put_turn : (f : ℕ → List A) (i : ℕ) {m₀ m m' : List A} {at q q' : ℕ} → Put m₀ m at (gather f i) q → Put m m' q (f i) q'
