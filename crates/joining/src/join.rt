@@ -11,7 +11,7 @@ ghost use Rattle.joining.specs.Join.{indices_up, span_up, spans_up, join_of, par
 ghost use Rattle.joining.specs.JoinSteps.{Movable, SpanMovable};
 
 use shape::lists::{Mesh, SPAN_WORDS};
-use shape::memory::{Lengths, room_fault};
+use shape::memory::{Lengths, copy, room_fault};
 use shape::mesh::MeshCounts;
 use shape::refusal::{Refusal, refuse_if};
 
@@ -124,8 +124,8 @@ fn put_both<T: Copy>(out: &mut [T], xs: &[T], ys: &[T])
 {
     let from = xs.len();
     let to = from + ys.len();
-    out[..from].copy_from_slice(xs);
-    out[from..to].copy_from_slice(ys);
+    copy(xs, &mut out[..from]);
+    copy(ys, &mut out[from..to]);
 }
 
 // Numbers moved up, to the memory from `at` on.
@@ -178,7 +178,7 @@ impl Parts<'_> {
         ensures { let w = join_of (lists_of self.entry.first) (lists_of self.entry.second) in Put out.old out.new 0 w.indices (length w.indices) }
     {
         let from = self.first.indices.len();
-        out[..from].copy_from_slice(self.first.indices);
+        copy(self.first.indices, &mut out[..from]);
         put_moved(out, from, self.second.indices, self.first.points() as u32);
     }
 
@@ -188,7 +188,7 @@ impl Parts<'_> {
         ensures { let w = join_of (lists_of self.entry.first) (lists_of self.entry.second) in Put out.old out.new 0 w.spans (length w.spans) }
     {
         let from = self.first.spans.len();
-        out[..from].copy_from_slice(self.first.spans);
+        copy(self.first.spans, &mut out[..from]);
         let v = self.first.points() as u32;
         let i = self.first.indices.len() as u32;
         put_spans(out, from, self.second.spans, v, i);

@@ -1,6 +1,7 @@
 -- `joining::join::Parts::put_indices` meets its contract: the first part's are copied, and the second's moved up behind them. Assumes nothing.
-use Rattle.std.proofs.Common.{refl, arith}
+use Rattle.std.proofs.Common.{refl, ◌∙◌, arith, length-take-le}
 use Rattle.shape.specs.Lists.{lists_of}
+use Rattle.shape.proofs.Laws.Memory.{copied}
 use Rattle.joining.proofs.Putting.{front_put}
 use Rattle.joining.proofs.Joining.{indices_fit, indices_put}
 use Rattle.joining.proofs.join.Parts.put_indices.Goals as goal
@@ -13,5 +14,7 @@ put_moved-requires-clause-fits c =
 pub returns : goal.returns
 returns c =
     let s = c.args.self in
-    indices_put (lists_of s.first) (lists_of s.second) (front_put c.args.out.now c.copy_from_slice.ensures.after refl (omega arith))
+    let first = c.copy.ensures in
+    indices_put (lists_of s.first) (lists_of s.second)
+    (front_put c.args.out.now (first.out_after ∙ copied _ _ _ first.value (length-take-le _ _ (omega arith))) refl (omega arith))
     (rw c.points.ensures at c.put_moved.ensures)
