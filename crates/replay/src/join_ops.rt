@@ -28,7 +28,9 @@ fn put_heights(answer: &mut Answer, whole: Mesh, points: &[f32]) {
     }
 }
 
-// The two parts, the room in each output, and the points that are asked of the whole.
+// The two parts, the room in each output, and the points that are asked of the whole. Apart from the other operations,
+// since its memory is that of two meshes and would be on the stack for each of them.
+#[inline(never)]
 pub(crate) fn join_case(case: &mut Case, answer: &mut Answer) -> Option<()> {
     let mut first = MeshMemory::new();
     let mut second = MeshMemory::new();
