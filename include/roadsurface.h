@@ -53,9 +53,9 @@
  * process: a vertex of height z = 1e-39 then gives 0. The calls take no memory but the caller's stack, about:
  *   rs_report         231 KB
  *   rs_ring            53 KB
- *   rs_ear_clip        20 KB
  *   rs_surface_mesh    18 KB
  *   rs_junction_mesh   18 KB
+ *   rs_ear_clip        17 KB
  *   rs_build_index      9 KB
  *   every other       under 2 KB
  */
