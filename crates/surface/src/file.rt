@@ -11,6 +11,7 @@ ghost use Rattle.surface.specs.File.{
   decode,
   encode,
   kind_of,
+  triangle_kind,
   by_kind,
   spare,
   spare_used,
@@ -91,12 +92,12 @@ pub(crate) fn word_at(bytes: &[u8], i: usize) -> u32
     }
 }
 
-// A record's bytes, from `at` of `bytes` on.
-fn put_file(bytes: &mut [u8], at: usize, r: Record)
-    requires { at + 32 ≤ length bytes.old }
-    ensures { Put bytes.old bytes.new at (encode r.words) (at + 32) }
+// The bytes of words, from `at` of `bytes` on.
+fn put_file(bytes: &mut [u8], at: usize, words: &[u32])
+    requires { at + 4 * length words.now ≤ length bytes.old }
+    ensures { Put bytes.old bytes.new at (encode words.now) (at + 4 * length words.now) }
 {
-    for (j, word) in r.words.iter().enumerate() {
+    for (j, word) in words.iter().enumerate() {
         put(bytes, at + 4 * j, &word.to_le_bytes());
     }
 }
@@ -120,6 +121,14 @@ pub(crate) fn file_lane(word: u32) -> Option<u32>
 }
 
 impl Record {
+    // Is it a triangle's?
+    #[tactic(auto, unfolding(crate::specs::Kind::number))]
+    fn is_triangle(self) -> bool
+        ensures { result ≡ eqb (kind_of self.words) triangle_kind }
+    {
+        self.words[0] == Kind::Triangle.number()
+    }
+
     // The lane by a held triangle's record: the id, with 1 in word 7.
     #[tactic(auto, unfolding(crate::specs::Lane::lane_of_held))]
     fn held_lane(self) -> Option<u32>
@@ -147,11 +156,11 @@ impl Record {
     }
 
     // A record of a file, as it is held.
-    #[tactic(auto, using(crate::proofs::Laws::Lane::held_other, crate::proofs::Laws::Lane::held_named, crate::proofs::Laws::Lane::held_none), unfolding(crate::specs::Kind::number))]
+    #[tactic(auto, using(crate::proofs::Laws::Lane::held_other, crate::proofs::Laws::Lane::held_named, crate::proofs::Laws::Lane::held_none))]
     fn held(self) -> Record
         ensures { result.words ≡ held_of (kind_of self.words) self.words }
     {
-        if self.words[0] != Kind::Triangle.number() {
+        if !self.is_triangle() {
             return self;
         }
         match file_lane(self.words[LANE]) {
@@ -161,21 +170,20 @@ impl Record {
     }
 
     // Is the id of this held record's lane past the greatest, if it is a triangle's?
-    #[tactic(auto, unfolding(crate::specs::Kind::number, crate::specs::File::by_kind, crate::specs::Lane::past_greatest))]
+    #[tactic(auto, unfolding(crate::specs::File::by_kind, crate::specs::Lane::past_greatest))]
     fn past_greatest(self) -> bool
         ensures { result ≡ by_kind (kind_of self.words) false (past_greatest (lane_of_held self.words)) false }
     {
-        self.words[0] == Kind::Triangle.number()
-            && self.held_lane().is_some_and(|id| GREATEST_ID < id)
+        self.is_triangle() && self.held_lane().is_some_and(|id| GREATEST_ID < id)
     }
 
     // A held record, as it stands in a file.
-    #[tactic(auto, using(crate::proofs::Laws::Lane::filed_other, crate::proofs::Laws::Lane::filed_named, crate::proofs::Laws::Lane::filed_none, crate::proofs::Laws::Lane::named_within), unfolding(crate::specs::Kind::number))]
+    #[tactic(auto, using(crate::proofs::Laws::Lane::filed_other, crate::proofs::Laws::Lane::filed_named, crate::proofs::Laws::Lane::filed_none, crate::proofs::Laws::Lane::named_within))]
     fn filed(self) -> Record
         requires { by_kind (kind_of self.words) false (past_greatest (lane_of_held self.words)) false ≡ false }
         ensures { result.words ≡ file_of (kind_of self.words) self.words }
     {
-        if self.words[0] != Kind::Triangle.number() {
+        if !self.is_triangle() {
             return self;
         }
         match self.held_lane() {
@@ -338,13 +346,25 @@ fn spare_used<R: Records>(kind: Kind, r: Record) -> bool
     false
 }
 
+// The number of the kind before, and 0 before the first. Kinds are compared by it as numbers, since their own
+// order looks both up in a table.
+#[tactic(auto, unfolding(crate::specs::Kind::number_before))]
+fn number_before(last: Option<Kind>) -> u32
+    ensures { result ≡ number_before last }
+{
+    match last {
+        Some(earlier) => earlier.number(),
+        None => 0,
+    }
+}
+
 // The kind of a record that follows one of kind `last`, unless it is bad.
-#[tactic(auto, using(crate::proofs::Laws::Records::kind_number), unfolding(crate::specs::Kind::number_before, crate::specs::Kind::kind_from, crate::specs::FileSteps::sound_kind, crate::specs::File::bad_record))]
+#[tactic(auto, using(crate::proofs::Laws::Records::kind_number), unfolding(crate::specs::Kind::kind_from, crate::specs::FileSteps::sound_kind, crate::specs::File::bad_record))]
 fn sound_kind<R: Records>(r: Record, last: Option<Kind>) -> Option<Kind>
     ensures { result ≡ kind_from (sound_kind R.form r.words (number_before last)) }
 {
     let kind = Kind::of(r.words[0])?;
-    if Some(kind) < last || spare_used::<R>(kind, r) || R::bad_lane(kind, r) {
+    if r.words[0] < number_before(last) || spare_used::<R>(kind, r) || R::bad_lane(kind, r) {
         return None;
     }
     Some(kind)
@@ -397,14 +417,20 @@ pub fn file_fault(bytes: &[u8]) -> Result<(), Refusal>
 
 // ---- the calls
 
-// The words held of a file, to the front of `held`.
+// The words held of a file, to the front of `held`. A record is put as it stands, several words at a time,
+// and then the words from a triangle's lane on again: one that is looked into before it is put is put word
+// by word, which takes this loop twice the time.
 fn copy_words(bytes: &[u8], held: &mut [u32])
     requires { (length bytes.now % 32 ≡ 0) × (length bytes.now / 4 ≤ length held.old) }
     ensures { Put held.old held.new 0 (words_of bytes.now) (length bytes.now / 4) }
 {
     let file = FileBytes { bytes };
     for k in 0..file.whole() {
-        put(held, 8 * k, &file.record(k).held().words);
+        put(held, 8 * k, &file.record(k).words);
+        let record = file.record(k);
+        if record.is_triangle() {
+            put(held, 8 * k + LANE, &record.held().words[LANE..]);
+        }
     }
 }
 
@@ -422,7 +448,7 @@ fn past_greatest(held: &[u32]) -> bool
     false
 }
 
-// The file's bytes of held words, to the front of `bytes`.
+// The file's bytes of held words, to the front of `bytes`: each record in two steps, as `copy_words` takes.
 fn copy_bytes(held: &[u32], bytes: &mut [u8])
     requires room { (length held.now % 8 ≡ 0) × (4 * length held.now ≤ length bytes.old) }
     requires ids { any (past_at held.now) (length held.now / 8) ≡ false }
@@ -430,7 +456,11 @@ fn copy_bytes(held: &[u32], bytes: &mut [u8])
 {
     let surface = HeldWords { words: held };
     for k in 0..surface.whole() {
-        put_file(bytes, 32 * k, surface.record(k).filed());
+        put_file(bytes, 32 * k, &surface.record(k).words);
+        let record = surface.record(k);
+        if record.is_triangle() {
+            put_file(bytes, 32 * k + 4 * LANE, &record.filed().words[LANE..]);
+        }
     }
 }
 

@@ -218,7 +218,7 @@ gather_file bs =
     let all : length (decode bs) ≤ 8 * n = omega (arith, decode_length bs) in
     ap (λ (f : ℕ → List ℕ). gather f n) (fun_ext (file_record_lem bs)) ∙ gather_held (decode bs) n ∙ take_all (8 * n) (decode bs) all
 
-encode_append : (xs ys : List ℕ) → encode (xs ++ ys) ≡ encode xs ++ encode ys
+pub encode_append : (xs ys : List ℕ) → encode (xs ++ ys) ≡ encode xs ++ encode ys
 unfolding encode
 encode_append xs ys =
     let f : ℕ → List ℕ = λ k. four_bytes (get_or (xs ++ ys) k 0) in

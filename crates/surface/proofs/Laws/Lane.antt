@@ -1,7 +1,8 @@
 -- The lane of a triangle: what becomes of a record that is held or written into a file, that nothing is lost on the way, and that both forms are bad
 -- for the same, but for the words that one of them alone has. Assumes nothing.
-use Rattle.std.specs.Prelude.{◌≡◌, ◌≢◌, refl, Bool, true, false, cond, not, ◌&&◌, ◌||◌, List, [], ◌∷◌, ℕ, ◌+◌, ◌-◌, ◌<◌, ◌≤◌, ◌^◌, ltb, eqb, length, get_or, set, zero, suc, Option, Some, None}
+use Rattle.std.specs.Prelude.{◌≡◌, ◌≢◌, refl, Bool, true, false, cond, not, ◌&&◌, ◌||◌, List, [], ◌∷◌, ℕ, ◌+◌, ◌-◌, ◌<◌, ◌≤◌, ◌^◌, ltb, eqb, length, get_or, set, take, zero, suc, Option, Some, None}
 use Rattle.std.proofs.Common.{sym, ◌∙◌, arith, length-set, get_or-set_other, eqb-true, ne_eqb, le-ltb, ltb-false, ltb-true}
+use Rattle.std.proofs.lemmas.List.{take-set-le}
 use borrow.Author.Tests.{eqb-false}
 use Rattle.std.proofs.Math.Bool.{true≢false}
 use Rattle.shape.specs.Gather.{any}
@@ -31,6 +32,21 @@ module _ (r : List ℕ) where
   pair_word : (lane named j : ℕ) → j ≢ 4 → j ≢ 7 → get_or (with_pair lane named r) j 0 ≡ get_or r j 0
   unfolding with_pair
   pair_word lane named j p q = get_or-set_other _ 7 j named 0 q ∙ get_or-set_other r 4 j lane 0 p
+
+  -- which stand behind the front
+  pair_front : (lane named : ℕ) → take 4 (with_pair lane named r) ≡ take 4 r
+  unfolding with_pair
+  pair_front lane named = take-set-le 4 (set r 4 lane) 7 named (omega arith) ∙ take-set-le 4 r 4 lane (omega arith)
+
+  in_held_front : (lane : Option ℕ) → take 4 (in_held lane r) ≡ take 4 r
+  unfolding in_held
+  in_held_front None = pair_front 0 0
+  in_held_front (Some id) = pair_front id 1
+
+  in_file_front : (lane : Option ℕ) → take 4 (in_file lane r) ≡ take 4 r
+  unfolding in_file
+  in_file_front None = pair_front 0 0
+  in_file_front (Some id) = pair_front (id + 1) 0
 
   in_held_length : (lane : Option ℕ) → length (in_held lane r) ≡ length r
   unfolding in_held
@@ -70,6 +86,15 @@ module _ (kind : ℕ) (r : List ℕ) where
   pub length_filed : length (file_of kind r) ≡ length r
   unfolding file_of
   length_filed = by_kinds (λ s. length s ≡ length r) r (in_file (lane_of_held r) r) kind refl (in_file_length r (lane_of_held r))
+
+  -- the words before that of the lane stay
+  pub front_held : take 4 (held_of kind r) ≡ take 4 r
+  unfolding held_of
+  front_held = by_kinds (λ s. take 4 s ≡ take 4 r) r (in_held (lane_of_file r) r) kind refl (in_held_front r (lane_of_file r))
+
+  pub front_filed : take 4 (file_of kind r) ≡ take 4 r
+  unfolding file_of
+  front_filed = by_kinds (λ s. take 4 s ≡ take 4 r) r (in_file (lane_of_held r) r) kind refl (in_file_front r (lane_of_held r))
 
   module _ (j : ℕ) (p : j ≢ 4) (q : j ≢ 7) where
     pub word_held : get_or (held_of kind r) j 0 ≡ get_or r j 0

@@ -1,5 +1,5 @@
 -- `surface::file::put_file` meets its contract: the bytes of the words so far are put. Assumes nothing.
-use Rattle.std.proofs.Common.{◌≡◌, ◌+◌, length, refl, arith, rules, add-zero}
+use Rattle.std.proofs.Common.{◌≡◌, ◌+◌, ◌*◌, length, refl, arith, rules, add-zero}
 use Rattle.surface.specs.File.{four_bytes, encode}
 use Rattle.surface.proofs.Copies.{filled_none, filled_fits, filled_turn, filled_all}
 use Rattle.surface.proofs.file.put_file.Goals as goal
@@ -10,7 +10,7 @@ loop-j-init c = rw add-zero (filled_none _ _ _ _)
 pub put-requires : goal.put-requires
 put-requires c =
     let n : length c.to_le_bytes.result ≡ 4 = search rules in
-    rw n (filled_fits _ _ c.loop-j.invariant 8 (omega arith) (omega arith))
+    rw n (filled_fits _ _ c.loop-j.invariant (length c.args.words.now) (omega arith) (omega arith))
 
 pub loop-j-preserved : goal.loop-j-preserved
 unfolding four_bytes
@@ -19,5 +19,5 @@ loop-j-preserved c = filled_turn _ _ c.loop-j.invariant refl (rw c.to_le_bytes.e
 pub returns : goal.returns
 unfolding encode
 returns c =
-    let n : length c.args.r.words ≡ 8 = search rules in
-    filled_all _ _ c.loop-j.invariant (length c.args.r.words) (c.args.at + 32) (omega arith) (omega arith)
+    let words = c.args.words.now in
+    filled_all _ _ c.loop-j.invariant (length words) (c.args.at + 4 * length words) (omega arith) (omega arith)

@@ -5,4 +5,4 @@ use Rattle.surface.proofs.Copies.{Filled}
 use Rattle.surface.proofs.file.put_file.Given as goal
 
 abbrev pub invariant-loop-j : goal.invariant-loop-j
-invariant-loop-j l = Filled (λ k. four_bytes (get_or l.word-items k 0)) 4 l.initial.bytes l.bytes l.at l.j (l.at + 4 * l.j)
+invariant-loop-j l = Filled (λ k. four_bytes (get_or l.words k 0)) 4 l.initial.bytes l.bytes l.at l.j (l.at + 4 * l.j)
